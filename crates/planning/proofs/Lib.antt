@@ -1,0 +1,5 @@
+pub mod Counts
+pub mod Plans
+pub mod Regression
+pub mod Verdicts
+pub mod Soundness
