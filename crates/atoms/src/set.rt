@@ -1,5 +1,6 @@
 // A set of atoms, by value. A number past 319 is in no set, and inserting it changes nothing.
 ghost use mathlib.Core.Path.{_≡_};
+ghost use lib.Dec.{ltb};
 ghost use Rattle.std.specs.Orderings.{Decides};
 ghost use Rattle.planning.specs.Sets.{none, _∪_, _∩_, _∖_, _⊆_, Under, count, lowest, greatest};
 ghost use Rattle.atoms.specs.Has.{has, only-atom};
@@ -15,6 +16,15 @@ impl Atoms {
         ensures { λ r. ⌜ has r ≡ none ⌝ }
     {
         Atoms { words: [0; 5] }
+    }
+
+    // The atoms 0 to 319.
+    pub fn all() -> Atoms
+        ensures { λ r. ⌜ has r ≡ (λ p. ltb p 320) ⌝ }
+    {
+        Atoms {
+            words: [u64::MAX; 5],
+        }
     }
 
     pub fn contains(self, p: u16) -> bool

@@ -4,8 +4,9 @@ ghost use lib.ListN.{length, getD};
 use atoms::Atoms;
 use atoms::AtomsPartialEq;
 use pad::Bench;
-use pad::BenchTask;
+use pad::bench::ACTIONS;
 use pad::bench::ATOMS;
+use planning::Fault;
 use planning::FaultDisplay;
 use std::io;
 use tasks::step;
@@ -26,49 +27,67 @@ fn run_end(plan: &[u16], i: usize) -> usize
     plan.len()
 }
 
+// An action's name; a macro's and an unknown action's number.
+fn show_action(rt: &LibcRuntime, a: u16) -> io::Result<()> {
+    if a < ACTIONS {
+        let name = Bench::action_name(a);
+        print!(rt, " {name}")
+    } else {
+        print!(rt, " action-{a}")
+    }
+}
+
+// An atom's name; a mark's number.
+fn show_atom(rt: &LibcRuntime, p: u16) -> io::Result<()> {
+    if p < ATOMS {
+        let name = Bench::atom_name(p);
+        print!(rt, " {name}")
+    } else {
+        print!(rt, " mark-{p}")
+    }
+}
+
 fn show_names(rt: &LibcRuntime, plan: &[u16]) -> io::Result<()> {
     let mut i = 0;
     while i < plan.len() {
         let end = run_end(plan, i);
-        let name = Bench::action_name(plan[i]);
         let times = end - i;
         if times > 1 {
-            print!(rt, " {times} x {name}")?;
-        } else {
-            print!(rt, " {name}")?;
+            print!(rt, " {times} x")?;
         }
+        show_action(rt, plan[i])?;
         i = end;
     }
     println!(rt, "")
 }
 
-fn show_atoms(rt: &LibcRuntime, atoms: Atoms) -> io::Result<()> {
+fn show_atoms(rt: &LibcRuntime, count: u16, atoms: Atoms) -> io::Result<()> {
     if atoms.is_empty() {
         print!(rt, " nothing")?;
     }
-    for p in 0..ATOMS {
+    for p in 0..count {
         if atoms.contains(p) {
-            let name = Bench::atom_name(p);
-            print!(rt, " {name}")?;
+            show_atom(rt, p)?;
         }
     }
     println!(rt, "")
 }
 
 // The state after each step, as far as the steps can be taken.
-fn show_states(rt: &LibcRuntime, plan: &[u16]) -> io::Result<()> {
-    let mut state = Bench.initial();
+fn show_states<P: Task>(rt: &LibcRuntime, task: &P, plan: &[u16]) -> io::Result<()> {
+    let mut state = task.initial();
     print!(rt, "  start:")?;
-    show_atoms(rt, state)?;
+    show_atoms(rt, task.atoms(), state)?;
     for i in 0..plan.len() {
         let place = i + 1;
-        let Ok(next) = step(&Bench, place, plan[i], state) else {
+        let Ok(next) = step(task, place, plan[i], state) else {
             return Ok(());
         };
         if i == 0 || plan[i] != plan[i - 1] || next != state {
-            let name = Bench::action_name(plan[i]);
-            print!(rt, "  {place} {name}:")?;
-            show_atoms(rt, next)?;
+            print!(rt, "  {place}")?;
+            show_action(rt, plan[i])?;
+            print!(rt, ":")?;
+            show_atoms(rt, task.atoms(), next)?;
         }
         state = next;
     }
@@ -76,25 +95,44 @@ fn show_states(rt: &LibcRuntime, plan: &[u16]) -> io::Result<()> {
 }
 
 // What the plan wants of the state that it starts in.
-fn show_wants(rt: &LibcRuntime, plan: &[u16]) -> io::Result<()> {
-    match wants(&Bench, plan) {
+fn show_wants<P: Task>(rt: &LibcRuntime, task: &P, plan: &[u16]) -> io::Result<()> {
+    match wants(task, plan) {
         Some(want) => {
             print!(rt, "  wants:")?;
-            show_atoms(rt, want)
+            show_atoms(rt, task.atoms(), want)
         }
         None => println!(rt, "  reaches the goal from no state"),
     }
 }
 
-pub fn show_plan(rt: &LibcRuntime, title: &str, plan: &[u16]) -> io::Result<()> {
+pub fn show_title(rt: &LibcRuntime, title: &str) -> io::Result<()> {
     println!(rt, "")?;
-    println!(rt, "{title}")?;
+    println!(rt, "{title}")
+}
+
+fn show_answer(rt: &LibcRuntime, answer: Result<(), Fault>) -> io::Result<()> {
+    match answer {
+        Ok(()) => println!(rt, " accepted"),
+        Err(fault) => println!(rt, " {fault}"),
+    }
+}
+
+// What came of a row added to a layer.
+pub fn show_row(rt: &LibcRuntime, answer: Result<(), Fault>) -> io::Result<()> {
+    print!(rt, "  row:")?;
+    show_answer(rt, answer)
+}
+
+pub fn show_plan<P: Task>(
+    rt: &LibcRuntime,
+    task: &P,
+    plan: &[u16],
+    verdict: Result<(), Fault>,
+) -> io::Result<()> {
     print!(rt, "  plan:")?;
     show_names(rt, plan)?;
-    show_wants(rt, plan)?;
-    show_states(rt, plan)?;
-    match Bench.judge(plan) {
-        Ok(()) => println!(rt, "  accepted"),
-        Err(fault) => println!(rt, "  {fault}"),
-    }
+    show_wants(rt, task, plan)?;
+    show_states(rt, task, plan)?;
+    print!(rt, "  verdict:")?;
+    show_answer(rt, verdict)
 }

@@ -3,7 +3,7 @@ ghost use Rattle.atoms.specs.Has.{has, only-atom};
 ghost use Rattle.planning.specs.Sets.{_∪_};
 ghost use Rattle.planning.specs.Piles.{bare};
 ghost use Rattle.planning.specs.Verdicts.{judged};
-ghost use Rattle.pad.specs.Bench.{bench, action-name, atom-name};
+ghost use Rattle.pad.specs.Bench.{bench, bench-row, action-name, atom-name};
 use atoms::Atoms;
 use planning::Fault;
 use tasks::Action;
@@ -32,7 +32,7 @@ fn two(p: u16, q: u16) -> Atoms
 
 // What action `a` needs, deletes and adds, for each of the six.
 fn sets(a: u16) -> (Atoms, Atoms, Atoms)
-    ensures { λ r. ⌜ (has (r .0) ≡ bench .needs a) × (has (r .1) ≡ bench .deletes a) × (has (r .2) ≡ bench .adds a) ⌝ }
+    ensures { λ r. ⌜ (has (r .0) ≡ bench-row a .needs) × (has (r .1) ≡ bench-row a .deletes) × (has (r .2) ≡ bench-row a .adds) ⌝ }
 {
     let none = Atoms::empty();
     match a {

@@ -83,7 +83,7 @@ lowest-empty f n e = go (lowest f n) (lowest-tells f n) e
     go (Some p) h e = absurd (true≢false e)
 
 -- what a set has below its own limit is all that it has
-under-false : (f : AtomSet) (n k : ℕ) → Under n f → n ≤ k → f k ≡ false
+pub under-false : (f : AtomSet) (n k : ℕ) → Under n f → n ≤ k → f k ≡ false
 under-false f n k u l = go (f k) refl
   where
     go : (b : Bool) → f k ≡ b → f k ≡ false

@@ -2,4 +2,13 @@ pub mod Counts
 pub mod Plans
 pub mod Regression
 pub mod Verdicts
+pub mod Carried
+pub mod Marked
+pub mod Successor
+pub mod Predecessor
+pub mod Joins
+pub mod Macros
 pub mod Soundness
+pub mod Empties
+pub mod Rows
+pub mod Bottoms

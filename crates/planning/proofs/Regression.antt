@@ -1,6 +1,5 @@
 -- A larger state serves as well; and what a row wants of its state decides whether it reaches the goal from there.
-use Prim.Native.Nat.{ℕ, _<_}
-use mathlib.Core.Bool.{not, _&&_, _||_}
+use Prim.Native.Nat.{ℕ}
 use mathlib.Core.List.{List, [], _∷_}
 use mathlib.Core.Logic.{_↔_}
 use lib.Dec.{T}

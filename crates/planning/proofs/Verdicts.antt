@@ -1,10 +1,10 @@
 -- The verdict on a plan says what it should: accepted exactly when at most 256 steps solve the task, and refused with the first fault.
-use Prim.Native.Nat.{ℕ, suc, _+_, _-_, _<_, _≤_}
+use Prim.Native.Nat.{ℕ, suc, _+_, _<_, _≤_}
 use mathlib.Core.Bool.{Bool, true, false, not, _&&_, cond}
 use mathlib.Core.List.{List, [], _∷_, _++_}
 use mathlib.Core.Path.{_≡_, refl, sym, ap, subst, _∙_}
 use lib.Dec.{T, ltb, leb}
-use lib.ListN.{length, take, getD, length-append}
+use lib.ListN.{length, length-append}
 use native.Mathlib.Omega.{arith}
 use Rattle.std.specs.Options.{Cases as OptionCases}
 use Rattle.std.specs.Orderings.{Decides}
@@ -15,9 +15,10 @@ use Rattle.std.specs.declared.result.Result.the-variants.{Ok, Err}
 use Rattle.std.proofs.shelf.Lists.{append-nil, append-assoc, length-push}
 use Rattle.std.proofs.shelf.Tests.{false≢true, ltb-true, ltb-false, leb-true, leb-false}
 use Rattle.planning.specs.Sets.{AtomSet, _∖_, _⊆_, Under, lowest}
-use Rattle.planning.specs.Tasks.{Task, Lawful, after, finally, Runs, Reaches, Solves}
+use Rattle.planning.specs.Tasks.{Task, Lawful, after, finally, Runs, Solves}
+use Rattle.planning.specs.Places.{before, action-at, state-before}
 use Rattle.planning.specs.Faults.{at-place}
-use Rattle.planning.specs.Verdicts.{Verdict, and-then, lack, lacks-at, lacks, judged-from, judged, before, action-at, state-before, Lacking, Reason, too-long, unknown, inapplicable, goal-missed, Refused, Means}
+use Rattle.planning.specs.Verdicts.{Verdict, and-then, lacks-at, lacks, judged-from, judged, Lacking, Reason, too-long, unknown, inapplicable, goal-missed, Refused, Means}
 use Rattle.planning.specs.declared.fault.Fault.{Fault}
 use Rattle.planning.specs.declared.refusal.Refusal.{Refusal}
 use Rattle.planning.specs.declared.refusal.Refusal.the-variants.{TooManySteps, UnknownAction, NotApplicable, GoalNotMet}
@@ -120,9 +121,9 @@ module _ (t : Task) (law : Lawful t) where
 
       go : Reason t plan f → ⊥
       go (too-long l e) = omega arith
-      go (unknown l m k e) = let n = reaches-at t (t .initial) plan (f .place - 1) h (omega (arith, r .from-one)) .0 in omega arith
+      go (unknown l m k e) = let n = reaches-at t (t .initial) plan (f .place) h (r .from-one) m .0 in omega arith
       go (inapplicable l m k lacking e) =
-          missing (t .needs (action-at plan (f .place))) (state-before t plan (f .place)) lacking (reaches-at t (t .initial) plan (f .place - 1) h (omega (arith, r .from-one)) .1)
+          missing (t .needs (action-at plan (f .place))) (state-before t plan (f .place)) lacking (reaches-at t (t .initial) plan (f .place) h (r .from-one) m .1)
       go (goal-missed l e lacking d) = missing (t .goal) (finally t (t .initial) plan) lacking (reaches-goal t (t .initial) plan h)
 
   pub judged-decides : (plan : List ℕ) → Decides (isOk (judged t plan)) ((length plan ≤ 256) × Solves t plan)

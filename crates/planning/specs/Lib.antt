@@ -1,8 +1,14 @@
 pub mod Sets
 pub mod Tasks
+pub mod Places
 pub mod Faults
 pub mod Verdicts
 pub mod Regression
-pub mod Achieving
+pub mod Rules
+pub mod Marks
+pub mod Macros
+pub mod Rows
+pub mod Bottoms
 pub mod Piles
 pub mod Judgements
+pub mod Amounts

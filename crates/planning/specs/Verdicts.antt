@@ -1,16 +1,17 @@
 -- What a plan handed in gets: acceptance, or the fault of the first step that fails, or of the goal.
-use Prim.Native.Nat.{ℕ, _+_, _-_, _<_, _≤_}
+use Prim.Native.Nat.{ℕ, _+_, _<_, _≤_}
 use mathlib.Core.Bool.{cond}
 use mathlib.Core.List.{List, [], _∷_}
 use mathlib.Core.Path.{_≡_}
 use lib.Dec.{T, ltb, leb}
-use lib.ListN.{length, take, getD}
+use lib.ListN.{length}
 use Rattle.std.specs.declared.option.Option.{Option}
 use Rattle.std.specs.declared.option.Option.the-variants.{None, Some}
 use Rattle.std.specs.declared.result.Result.{Result}
 use Rattle.std.specs.declared.result.Result.the-variants.{Ok, Err}
 use Rattle.planning.specs.Sets.{AtomSet, _∖_, count, lowest}
 use Rattle.planning.specs.Tasks.{Task, after, finally, Runs, Solves}
+use Rattle.planning.specs.Places.{before, state-before, action-at}
 use Rattle.planning.specs.Faults.{at-place}
 use Rattle.planning.specs.declared.fault.Fault.{Fault}
 use Rattle.planning.specs.declared.refusal.Refusal.{Refusal}
@@ -54,16 +55,6 @@ judged-from t place state (a ∷ rest) = and-then (stepped t place a state) (λ 
 
 abbrev pub judged : Task → List ℕ → Verdict
 judged t plan = judged-from t 1 (t .initial) plan
-
--- places count from 1: the steps before a place, the state that they lead to, and the action at the place
-abbrev pub before : List ℕ → ℕ → List ℕ
-before plan place = take (place - 1) plan
-
-abbrev pub state-before : Task → List ℕ → ℕ → AtomSet
-state-before t plan place = finally t (t .initial) (before plan place)
-
-abbrev pub action-at : List ℕ → ℕ → ℕ
-action-at plan place = getD plan (place - 1) 0
 
 -- the fault names the lowest needed atom that the state lacks, how many it lacks, and the height at which that atom first appeared
 pub record Lacking (t : Task) (need state : AtomSet) (f : Fault) : Type 0 where

@@ -5,7 +5,7 @@ use crate::refusal::RefusalDebug;
 use crate::refusal::RefusalPartialEq;
 use std::fmt;
 
-// A refusal with what it says of the plan: fields that it does not fill are 0.
+// A refusal with what it says of the file, text, plan, row or call that caused it: fields that it does not fill are 0.
 #[derive(Clone, Copy, PartialEq, Eq, Debug)]
 pub struct Fault {
     pub refusal: Refusal,

@@ -1,6 +1,6 @@
 -- A state's missing atoms, counted and named over all 320 numbers or over the task's atoms; and one step of a judgement.
 use Prim.Native.Nat.{ℕ, _+_, _<_, _≤_}
-use mathlib.Core.Bool.{not, _&&_, cond}
+use mathlib.Core.Bool.{not, _&&_}
 use mathlib.Core.List.{List}
 use mathlib.Core.Path.{_≡_, ap, sym, subst, _∙_}
 use lib.Dec.{T, ltb, leb}

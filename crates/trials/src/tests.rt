@@ -1,4 +1,5 @@
 // Each test goes through a table: a row that fails ends it, and is named by the note.
+mod amounts;
 mod bench;
 mod full;
 mod plans;

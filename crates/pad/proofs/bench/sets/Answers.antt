@@ -1,13 +1,13 @@
 use Prim.Native.Nat.{ℕ}
 use mathlib.Core.Path.{_≡_, sym, ap, _∙_}
 use Rattle.planning.specs.Sets.{AtomSet}
-use Rattle.pad.specs.Bench.{bench}
+use Rattle.pad.specs.Bench.{bench-row}
 use Rattle.pad.proofs.bench.sets.Needs as need
 
 -- the sets of action k are those of a
-same : {x y z : AtomSet} (a k : ℕ) → a ≡ k → x ≡ bench .needs k → y ≡ bench .deletes k → z ≡ bench .adds k
-    → (x ≡ bench .needs a) × (y ≡ bench .deletes a) × (z ≡ bench .adds a)
-same a k e p q r = (p ∙ ap (bench .needs) (sym e), q ∙ ap (bench .deletes) (sym e), r ∙ ap (bench .adds) (sym e))
+same : {x y z : AtomSet} (a k : ℕ) → a ≡ k → x ≡ bench-row k .needs → y ≡ bench-row k .deletes → z ≡ bench-row k .adds
+    → (x ≡ bench-row a .needs) × (y ≡ bench-row a .deletes) × (z ≡ bench-row a .adds)
+same a k e p q r = (p ∙ ap (λ i. bench-row i .needs) (sym e), q ∙ ap (λ i. bench-row i .deletes) (sym e), r ∙ ap (λ i. bench-row i .adds) (sym e))
 
 pub returns-in-0 : need.returns-in-0
 returns-in-0 c = same (c .args .a) 0 (c .in-0 .is) (c .empty-none .ensures) (c .empty-none .ensures) (c .one .ensures)

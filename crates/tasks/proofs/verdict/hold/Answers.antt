@@ -1,4 +1,3 @@
-use Rattle.atoms.specs.Has.{has}
 use Rattle.planning.specs.Piles.{meaning}
 use Rattle.planning.proofs.Soundness.{built-sound}
 use Rattle.tasks.proofs.Steps.{lacks-none, lacks-some}

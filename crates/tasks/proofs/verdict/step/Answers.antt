@@ -1,14 +1,12 @@
 use borrow.Author.Needs.{needs}
-use Prim.Native.Nat.{_<_, _≤_}
-use mathlib.Core.Bool.{true}
-use mathlib.Core.Path.{_≡_, ap, ap₂, _∙_}
+use Prim.Native.Nat.{_<_}
+use mathlib.Core.Path.{ap, ap₂, _∙_}
 use native.Mathlib.Omega.{arith}
-use Rattle.std.specs.declared.result.Result.the-variants.{Ok, Err}
+use Rattle.std.specs.declared.result.Result.the-variants.{Ok}
 use Rattle.std.proofs.shelf.Results.{err-from-errBy}
 use Rattle.atoms.specs.Has.{has}
 use Rattle.planning.specs.Sets.{_∪_, _∖_}
 use Rattle.planning.specs.Piles.{meaning}
-use Rattle.planning.specs.Verdicts.{on-ok}
 use Rattle.planning.proofs.Soundness.{built-sound}
 use Rattle.tasks.proofs.Steps.{step-known}
 use Rattle.tasks.proofs.verdict.step.Needs as need

@@ -1,0 +1,4 @@
+pub mod Additions
+mod Joined
+mod Tables
+mod Marking

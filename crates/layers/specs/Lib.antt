@@ -1,0 +1,4 @@
+pub mod Tables
+pub mod Marking
+pub mod Adding
+pub mod Joining

@@ -1,0 +1,2 @@
+pub mod Tall
+pub mod Wide
