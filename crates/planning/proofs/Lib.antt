@@ -12,3 +12,4 @@ pub mod Soundness
 pub mod Empties
 pub mod Rows
 pub mod Bottoms
+pub mod Charges

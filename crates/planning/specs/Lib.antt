@@ -12,3 +12,5 @@ pub mod Bottoms
 pub mod Piles
 pub mod Judgements
 pub mod Amounts
+pub mod Edits
+pub mod Orders

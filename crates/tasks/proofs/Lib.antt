@@ -1,3 +1,3 @@
 mod Steps
 mod Backwards
-mod Appends
+pub mod Appends

@@ -1,0 +1,3 @@
+// Tests of service orders.
+#[cfg(test)]
+mod tests;

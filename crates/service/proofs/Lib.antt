@@ -1,0 +1,2 @@
+mod Editing
+mod Splicing
