@@ -26,6 +26,7 @@ enum Edit {
     Swap(usize),
     Fold(usize, u16),
     Unfold(usize),
+    Trim,
 }
 
 fn fault(refusal: Refusal, place: usize, atom: u16, missing: u16) -> Option<Fault> {
@@ -53,13 +54,18 @@ fn pile() -> MacroLayer<Bench> {
     pile
 }
 
+fn credited(answer: Result<Cents, Fault>) -> (Option<Fault>, u64) {
+    match answer {
+        Ok(credit) => (None, credit.value()),
+        Err(fault) => (Some(fault), 0),
+    }
+}
+
 // The fault of an edit, if it has one, and what it credits.
 fn edited(order: &mut Order<MacroLayer<Bench>, Bank<'_>>, edit: Edit) -> (Option<Fault>, u64) {
     let done = match edit {
-        Edit::Drop(i) => match order.drop(i) {
-            Ok(credit) => return (None, credit.value()),
-            Err(fault) => Err(fault),
-        },
+        Edit::Drop(i) => return credited(order.drop(i)),
+        Edit::Trim => return credited(order.trim()),
         Edit::Swap(i) => order.swap(i),
         Edit::Fold(i, c) => order.fold(i, c),
         Edit::Unfold(i) => order.unfold(i),
@@ -78,6 +84,7 @@ fn no_plan() -> Result<(), Fail> {
         Edit::Swap(0),
         Edit::Fold(1, 6),
         Edit::Unfold(9),
+        Edit::Trim,
     ];
     for edit in edits {
         let mut order = Order::open(pile(), Bank::new(&CENTS));
@@ -152,6 +159,20 @@ fn folds() -> Result<(), Fail> {
             (folded, Edit::Unfold(2), None, 0, SERVICE),
             (folded, Edit::Unfold(3), whole, 0, folded),
             (folded, Edit::Unfold(4), no_step(4), 0, folded),
+        ],
+    )
+}
+
+// The first of two equal steps goes, and the scan begins again behind each that went.
+#[test]
+fn trims() -> Result<(), Fail> {
+    check_rows(
+        &[
+            (SERVICE, Edit::Trim, None, 0, SERVICE),
+            (&[0, 4, 1, 2, 3], Edit::Trim, None, 250, SERVICE),
+            (&[0, 2, 1, 2, 3], Edit::Trim, None, 1200, SERVICE),
+            (&[0, 1, 2, 3, 0, 2], Edit::Trim, None, 1700, SERVICE),
+            (&[0, 4, 0, 6, 3], Edit::Trim, None, 750, &[0, 6, 3]),
         ],
     )
 }

@@ -18,3 +18,9 @@ module _ {A : Type 0} (am : Amounts A) (price : ℕ → A) where
     charge-cons a r =
         total-append (t .base-steps a) (joined (t .base-steps) r)
         ∙ ap (λ x. am .join (total am price x) (charge am price t r)) (sym (append-nil (t .base-steps a)))
+
+    pub charge-append : (x y : List ℕ) → charge am price t (x ++ y) ≡ am .join (charge am price t x) (charge am price t y)
+    charge-append [] y = sym (am .unit (charge am price t y))
+    charge-append (a ∷ x) y =
+        charge-cons a (x ++ y) ∙ ap (am .join (charge am price t (a ∷ []))) (charge-append x y)
+        ∙ sym (am .assoc (charge am price t (a ∷ [])) (charge am price t x) (charge am price t y)) ∙ ap (λ k. am .join k (charge am price t y)) (sym (charge-cons a x))

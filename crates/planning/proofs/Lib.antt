@@ -13,3 +13,6 @@ pub mod Empties
 pub mod Rows
 pub mod Bottoms
 pub mod Charges
+pub mod Trims
+pub mod Edits
+pub mod Terms

@@ -13,4 +13,6 @@ pub mod Piles
 pub mod Judgements
 pub mod Amounts
 pub mod Edits
+pub mod Trims
 pub mod Orders
+pub mod Runs

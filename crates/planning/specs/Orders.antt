@@ -12,6 +12,7 @@ use Rattle.planning.specs.Amounts.{Amounts, total}
 use Rattle.planning.specs.Faults.{at-place}
 use Rattle.planning.specs.Verdicts.{Verdict, judged}
 use Rattle.planning.specs.Edits.{Edited, dropped, swapped, folded, unfolded}
+use Rattle.planning.specs.Trims.{trimmed}
 use Rattle.planning.specs.declared.fault.Fault.{Fault}
 use Rattle.planning.specs.declared.refusal.Refusal.the-variants.{NoPlan}
 
@@ -66,3 +67,7 @@ module _ {A : Type 0} (am : Amounts A) (price : ℕ → A) (t : Task) where
   -- drop answers the credit of the step that left
   abbrev pub drop-call : Held → ℕ → Outcome A
   drop-call held i = with-plan held (λ plan. taken (charge (action-at plan i ∷ [])) plan (dropped t plan i))
+
+  -- trim answers the credit of all steps that left
+  abbrev pub trim-call : Held → Outcome A
+  trim-call held = with-plan held (λ plan. (Ok (charge (trimmed t plan .gone)), Some (trimmed t plan .plan)))

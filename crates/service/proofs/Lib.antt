@@ -1,2 +1,3 @@
 mod Editing
 mod Splicing
+mod Trimming

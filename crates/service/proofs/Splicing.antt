@@ -1,11 +1,16 @@
 -- A plan put together from a front, a part and a rest.
-use mathlib.Core.List.{List, [], _++_}
+use mathlib.Core.List.{List, [], _∷_, _++_}
 use mathlib.Core.Path.{_≡_, ap, ap₂, _∙_}
-use Prim.Native.Nat.{ℕ, _+_, _-_, _<_, _≤_}
+use Prim.Native.Nat.{ℕ, zero, suc, _+_, _-_, _<_, _≤_}
 use native.Mathlib.Omega.{arith}
 use lib.ListN.{length, take, drop}
 use Rattle.std.proofs.shelf.Lists.{append-assoc, length-append, length-take-le, take-rest}
 use Rattle.planning.specs.Edits.{splice}
+
+pub take-short : (n : ℕ) (row : List ℕ) → length (take n row) ≤ n
+take-short zero row = omega arith
+take-short (suc n) [] = omega arith
+take-short (suc n) (a ∷ row) = omega (arith, take-short n row)
 
 module _ (steps part none row : List ℕ) (i n : ℕ) (e : none ≡ []) (is : row ≡ steps) (h : i + n ≤ length steps) where
   front-length : length (none ++ take (i - 0) row) ≡ i

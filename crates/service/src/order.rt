@@ -12,6 +12,9 @@ ghost use Rattle.planning.specs.Orders.{load-call, drop-call, swap-call, fold-c
 ghost use Rattle.planning.specs.Verdicts.{on-ok};
 ghost use Rattle.service.specs.Calls.{held, Does};
 ghost use Rattle.service.specs.Steps.{steps-of};
+
+pub mod trim;
+
 use crate::plan::Plan;
 use planning::Fault;
 use planning::Refusal;

@@ -4,6 +4,7 @@ ghost use Prim.Native.Nat.{_+_, _<_, _≤_};
 ghost use lib.ListN.{length};
 ghost use Rattle.std.specs.Options.{Cases};
 ghost use Rattle.planning.specs.Edits.{splice};
+ghost use Rattle.planning.specs.Trims.{left-out};
 ghost use Rattle.service.specs.Steps.{steps-of};
 use super::Plan;
 use tasks::verdict::MOST_STEPS;
@@ -53,5 +54,15 @@ impl Plan {
             .then(&steps[0..i])?
             .then(part)?
             .then(&steps[i + n..steps.len()])
+    }
+
+    // The plan without the step at index `i`.
+    pub fn without(&self, i: usize) -> Plan
+        ensures { λ r. ⌜ (i < length (steps-of (now (self .entry))) → steps-of r ≡ left-out (steps-of (now (self .entry))) i) ⌝ }
+    {
+        match self.splice(i, 1, &[]) {
+            Some(plan) => plan,
+            None => *self,
+        }
     }
 }
