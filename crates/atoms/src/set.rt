@@ -1,12 +1,12 @@
 // A set of atoms, by value. A number past 319 is in no set, and inserting it changes nothing.
 ghost use Rattle.std.specs.Prelude.{◌≡◌, Decides, nat_lt};
-ghost use Rattle.planning.specs.Sets.{none, ◌∪◌, ◌∩◌, ◌∖◌, ◌⊆◌, Under, count, lowest, greatest};
+ghost use Rattle.planning.specs.Sets.{none, ◌∪◌, ◌∩◌, ◌∖◌, ◌⊆◌, Under, count, lowest, greatest, same_below};
 ghost use Rattle.atoms.specs.Has.{has, only_atom};
-ghost use Rattle.std.specs.Cmp.Rules.{comparing};
-ghost use Rattle.std.proofs.Common.{rules};
-ghost use Rattle.std.specs.Cmp as Keys;
+ghost use Rattle.std.specs.Cmp.{partial_equiv_from_equiv, on_equiv};
+ghost use Rattle.std.specs.Ordering.{on};
+ghost use Rattle.planning.proofs.Same.{same_equivalence};
 
-#[derive(Clone, Copy, Eq, Debug)]
+#[derive(Clone, Copy, Debug)]
 pub struct Atoms {
     // atom p is digit p % 64 of word p / 64
     words: [u64; 5],
@@ -139,11 +139,18 @@ impl Atoms {
 
 // Two sets are equal if they have the same atoms.
 impl PartialEq for Atoms {
-    ghost equals = { λ a b r. Decides r (has a ≡ has b) };
+    ghost eq = { on has (same_below 320) };
 
-    ghost laws = { Keys.partial_equiv_from_equiv (Prim.search (comparing, rules)) };
+    ghost laws = { partial_equiv_from_equiv (on_equiv has (same_equivalence 320)) };
 
-    fn eq(&self, other: &Atoms) -> bool {
+    fn eq(&self, other: &Atoms) -> bool
+        ensures computed { result ≡ same_below 320 (has self.now) (has other.now) }
+        ensures decided { Decides result (has self.now ≡ has other.now) }
+    {
         self.is_subset(*other) && other.is_subset(*self)
     }
+}
+
+impl Eq for Atoms {
+    ghost laws = { on_equiv has (same_equivalence 320) };
 }

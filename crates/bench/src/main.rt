@@ -1,5 +1,7 @@
 // Judges the worked plans of the bench, bare and under layers, and prints all that it did: each plan by its actions' names, what it
 // wants of the start, the state after every step, and the verdict.
+#![tactic(auto)]
+
 mod bare;
 mod layered;
 mod show;

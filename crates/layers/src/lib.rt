@@ -1,4 +1,6 @@
 // Layers over any task: rules over kinds of actions, and macros. Each is again a task.
+#![tactic(auto)]
+
 mod height;
 pub mod joining;
 pub mod macro_layer;

@@ -1,3 +1,5 @@
 // Tests of service orders.
+#![tactic(auto)]
+
 #[cfg(test)]
 mod tests;

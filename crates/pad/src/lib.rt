@@ -1,4 +1,6 @@
 // The service bench of a handwriting pad, as a bottom of its own, and piles on it.
+#![tactic(auto)]
+
 pub mod bench;
 pub mod piles;
 

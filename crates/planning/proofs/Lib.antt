@@ -1,4 +1,5 @@
 pub mod Counts
+pub mod Same
 pub mod Plans
 pub mod Regression
 pub mod Verdicts

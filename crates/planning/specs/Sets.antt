@@ -1,5 +1,5 @@
 -- Sets of atoms: a yes or no for each number.
-use Rattle.std.specs.Prelude.{ℕ, zero, suc, ◌+◌, ◌<◌, Bool, false, cond, not, ◌&&◌, ◌||◌, T, Some, None, Option, ◌==◌}
+use Rattle.std.specs.Prelude.{ℕ, zero, suc, ◌+◌, ◌<◌, Bool, false, cond, not, ◌&&◌, ◌||◌, T, is_none, Some, None, Option, ◌==◌}
 use Rattle.std.specs.Option.{option_or}
 
 abbrev pub AtomSet : Type 0
@@ -45,3 +45,7 @@ lowest a (suc n) = option_or (lowest a n) (cond (a n) (Some n) None)
 unfoldable pub greatest : AtomSet → ℕ → Option ℕ
 greatest a zero = None
 greatest a (suc n) = cond (a n) (Some n) (greatest a n)
+
+-- whether neither of two sets has a number below n that the other lacks
+abbrev pub same_below : ℕ → AtomSet → AtomSet → Bool
+same_below n a b = is_none (lowest (a ∖ b) n) && is_none (lowest (b ∖ a) n)

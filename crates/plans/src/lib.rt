@@ -1,4 +1,6 @@
 // Plans of up to 256 steps, and plans trimmed.
+#![tactic(auto)]
+
 pub mod plan;
 mod script;
 pub mod trimming;

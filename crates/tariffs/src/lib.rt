@@ -1,4 +1,6 @@
 // Amounts, and what base actions are charged.
+#![tactic(auto)]
+
 pub mod amount;
 pub mod bank;
 pub mod cents;

@@ -1,4 +1,6 @@
 // Tasks behind one interface, and the judge of plans.
+#![tactic(auto)]
+
 pub mod action;
 pub mod base_steps;
 pub mod regression;

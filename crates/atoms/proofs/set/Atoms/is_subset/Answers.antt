@@ -1,18 +1,8 @@
 -- Of a subset nothing is left.
-use Rattle.std.proofs.Common.{◌≡◌, Bool, true, false, not, ◌&&◌, T, sym, refl, ap, ◌∙◌}
+use Rattle.std.proofs.Common.{sym, ap, ◌∙◌}
 use mathlib.Core.Path.{fun_ext}
-use Rattle.std.proofs.lemmas.Bool.{true≢false}
+use Rattle.planning.proofs.Same.{within, without}
 use Rattle.atoms.proofs.set.Atoms.is_subset.Goals as goal
-
-within : (x y : Bool) → (x && not y) ≡ false → T x → T y
-within true true e t = tt
-within true false e t = absurd (true≢false e)
-within false y e t = absurd t
-
-without : (x y : Bool) → (T x → T y) → (x && not y) ≡ false
-without true true h = refl
-without true false h = absurd (h tt)
-without false y h = refl
 
 pub returns : goal.returns
 returns c =
