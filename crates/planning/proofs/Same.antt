@@ -1,9 +1,10 @@
 -- Sets that agree below a number: an equivalence.
 use Rattle.std.specs.Prelude.{Decides}
+use Rattle.std.specs.Bool.{one_answer}
 use Rattle.std.specs.Cmp.{IsEquivalence}
-use Rattle.std.proofs.Common.{◌≡◌, ℕ, ◌<◌, Bool, true, false, not, ◌&&◌, T, is_some, is_none, sym, refl, ap, ◌∙◌}
-use Rattle.std.proofs.lemmas.Bool.{true≢false}
-use Rattle.planning.specs.Sets.{AtomSet, ◌∖◌, lowest, same_below}
+use Rattle.std.proofs.Common.{◌≡◌, ℕ, ◌<◌, Bool, true, false, not, ◌&&◌, T, is_some, is_none, sym, refl, ap, ◌∙◌, ⊎_elim}
+use Rattle.std.proofs.lemmas.Bool.{cases_lt, true≢false}
+use Rattle.planning.specs.Sets.{AtomSet, ◌∖◌, ◌⊆◌, Under, lowest, same_below}
 use Rattle.planning.proofs.Counts.{lowest_none, lowest_empty}
 
 pub within : (x y : Bool) → (x && not y) ≡ false → T x → T y
@@ -49,6 +50,16 @@ module _ (n : ℕ) where
         λ e k l. alike (f k) (g k) ((none_left f g).0 (parts.0 e).0 k l) ((none_left g f).0 (parts.0 e).1 k l),
         λ e. parts.1 ((none_left f g).1 (λ k l. moved (f k) (g k) (e k l)), (none_left g f).1 (λ k l. moved (g k) (f k) (sym (e k l)))),
       )
+
+  -- of sets that have nothing from n on
+  pub subsets_decide : (f g : AtomSet) → Under n f → Under n g → Decides (same_below n f g) ((f ⊆ g) × (g ⊆ f))
+  subsets_decide f g u v = (
+    λ e. (
+      λ p t. moved (f p) (g p) ((same_decides f g).0 e p (u p t)) t,
+      λ p t. moved (g p) (f p) (sym ((same_decides f g).0 e p (v p t))) t,
+    ),
+    λ h. (same_decides f g).1 (λ k l. alike (f k) (g k) (h.0 k) (h.1 k)),
+  )
 
   pub same_equivalence : IsEquivalence (same_below n)
   same_equivalence = record {

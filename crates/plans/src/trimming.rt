@@ -16,8 +16,8 @@ pub struct Trimmed {
 
 // Leaves out the earliest step that can be, again and again, until none can.
 pub fn trim<P: Task>(task: &P, plan: Plan) -> Trimmed
-    ensures plan { Built (pile task.now) → steps_of result.plan ≡ (trimmed (meaning (pile task.now)) (steps_of plan)).plan }
-    ensures gone { Built (pile task.now) → steps_of result.gone ≡ (trimmed (meaning (pile task.now)) (steps_of plan)).gone }
+    ensures plan { Built (P.pile task.now) → steps_of result.plan ≡ (trimmed (meaning (P.pile task.now)) (steps_of plan)).plan }
+    ensures gone { Built (P.pile task.now) → steps_of result.gone ≡ (trimmed (meaning (P.pile task.now)) (steps_of plan)).gone }
 {
     let mut script = Script::of(task, plan);
     let mut gone = Plan::empty();

@@ -6,7 +6,7 @@ use crate::tariff::Tariff;
 
 // The joined amounts of a row of base steps.
 pub fn quote_steps<F: Tariff>(tariff: &F, steps: &[u16]) -> F::Amount
-    ensures { result ≡ total F.Amount.Amount.amounts (price tariff.now) steps.now }
+    ensures { result ≡ total F.Amount.Amount.amounts (F.price tariff.now) steps.now }
 {
     let mut sum = F::Amount::nought();
     for a in steps {

@@ -25,7 +25,7 @@ impl Action {
 
 // What is wanted before the action `a`, where `want` is wanted after it; nothing where the action is unknown or spoils it.
 fn regress<P: Task>(task: &P, a: u16, want: Atoms) -> Option<Atoms>
-    ensures { Built (pile task.now) → WantedBefore (meaning (pile task.now)) a (has want) result }
+    ensures { Built (P.pile task.now) → WantedBefore (meaning (P.pile task.now)) a (has want) result }
 {
     if a >= task.actions() {
         return None;
@@ -40,9 +40,9 @@ fn regress<P: Task>(task: &P, a: u16, want: Atoms) -> Option<Atoms>
 
 // What a state has to contain for the plan to reach the goal from it; none where no state does.
 pub fn wants<P: Task>(task: &P, plan: &[u16]) -> Option<Atoms>
-    ensures exact { Built (pile task.now) → Wanted (meaning (pile task.now)) plan.now result }
-    ensures regression { Built (pile task.now) → (s : AtomSet) → Reaches (meaning (pile task.now)) s plan.now ↔ MatchOption result ⊥ (λ w. has w ⊆ s) }
-    ensures monotone { (s s' : AtomSet) → s ⊆ s' → Reaches (meaning (pile task.now)) s plan.now → Reaches (meaning (pile task.now)) s' plan.now }
+    ensures exact { Built (P.pile task.now) → Wanted (meaning (P.pile task.now)) plan.now result }
+    ensures regression { Built (P.pile task.now) → (s : AtomSet) → Reaches (meaning (P.pile task.now)) s plan.now ↔ MatchOption result ⊥ (λ w. has w ⊆ s) }
+    ensures monotone { (s s' : AtomSet) → s ⊆ s' → Reaches (meaning (P.pile task.now)) s plan.now → Reaches (meaning (P.pile task.now)) s' plan.now }
 {
     let mut want = task.goal();
     for i in (0..plan.len()).rev() {

@@ -36,7 +36,7 @@ impl Script {
     // Asks the task for the action of each step.
     pub fn of<P: Task>(task: &P, plan: Plan) -> Script
         ensures plan { result.plan ≡ plan }
-        ensures scripted { Built (pile task.now) → Scripted (meaning (pile task.now)) result }
+        ensures scripted { Built (P.pile task.now) → Scripted (meaning (P.pile task.now)) result }
     {
         let steps = plan.as_slice();
         let mut actions = [Action::unknown(); 256];

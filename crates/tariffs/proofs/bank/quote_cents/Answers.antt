@@ -7,5 +7,5 @@ use Rattle.tariffs.proofs.bank.quote_cents.Goals as goal
 
 pub returns : goal.returns
 returns c =
-    let is = c.quote-steps.ensures ∙ ap (λ row. total cents_amounts (bank_price row) c.args.steps.now) c.new.ensures in
-    record { exact = is; plain = λ l. ap (λ x. x.value) is ∙ cents_plain c.args.cents.now c.args.steps.now (λ i. omega (arith, c.type-inv.cents i)) l }
+    let is = c.quote_steps.ensures ∙ ap (λ row. total cents_amounts (bank_price row) c.args.steps.now) c.new.ensures in
+    record { exact = is; plain = λ l. ap (λ x. x.value) is ∙ cents_plain c.args.cents.now c.args.steps.now (λ i. omega (arith, c.type_inv.cents i)) l }

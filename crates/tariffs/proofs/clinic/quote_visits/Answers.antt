@@ -10,9 +10,9 @@ returns c =
     let m = c.args.minutes.now in
     let v = c.args.visits.now in
     let steps = c.args.steps.now in
-    let is = c.quote-steps.ensures ∙ ap₂ (λ m v. total visits_amounts (clinic_price m v) steps) c.new.ensures.minutes c.new.ensures.visits in
+    let is = c.quote_steps.ensures ∙ ap₂ (λ m v. total visits_amounts (clinic_price m v) steps) c.new.ensures.minutes c.new.ensures.visits in
     record {
       exact = is;
-      minutes = λ l. ap (λ x. x.minutes) is ∙ minutes_plain m v steps (λ i. omega (arith, c.type-inv.minutes i)) l;
-      visits = λ l. ap (λ x. x.visits) is ∙ visits_plain m v steps (λ i. omega (arith, c.type-inv.visits i)) l;
+      minutes = λ l. ap (λ x. x.minutes) is ∙ minutes_plain m v steps (λ i. omega (arith, c.type_inv.minutes i)) l;
+      visits = λ l. ap (λ x. x.visits) is ∙ visits_plain m v steps (λ i. omega (arith, c.type_inv.visits i)) l;
     }

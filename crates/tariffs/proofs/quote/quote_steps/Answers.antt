@@ -5,12 +5,12 @@ use Rattle.tariffs.proofs.quote.quote_steps.Goals as goal
 
 pub loop-a-init : goal.loop-a-init
 loop-a-init g c =
-    let am = g.Amount-as-Amount.amounts in
+    let am = g.F.Amount.Amount.amounts in
     ap (λ s. am.join s (total am (g.F.Tariff.price c.args.tariff.now) c.args.steps.now)) c.nought-sum.ensures ∙ am.unit _
 
 pub loop-a-preserved : goal.loop-a-preserved
 loop-a-preserved g c =
-    let am = g.Amount-as-Amount.amounts in
+    let am = g.F.Amount.Amount.amounts in
     let price = g.F.Tariff.price c.args.tariff.now in
     let steps = c.args.steps.now in
     let i = c.loop-a.a-index in
@@ -19,7 +19,7 @@ loop-a-preserved g c =
 
 pub returns : goal.returns
 returns g c =
-    let am = g.Amount-as-Amount.amounts in
+    let am = g.F.Amount.Amount.amounts in
     let price = g.F.Tariff.price c.args.tariff.now in
     let s = c.loop-a.sum in
     sym (ap (am.join s) (at_drop_all (total am price) c.args.steps.now c.loop-a.a-index c.loop-a-test.false) ∙ am.comm s am.nought ∙ am.unit s)

@@ -22,11 +22,11 @@ loop-i-preserved g c b =
     let i = c.loop-i.i - 1 in
     let on : i + 1 ≡ c.loop-i.i = omega arith in
     let inside : i < length plan = omega arith in
-    wanted_more t plan i (has c.loop-i.want) (Some c.in-ok-want.want) inside
-    (subst (Rest t plan (has c.loop-i.want)) (sym on) (c.loop-i.invariant b)) (c.in-ok-want.ensures b)
+    wanted_more t plan i (has c.loop-i.want) (Some c.in_ok-want.want) inside
+    (subst (Rest t plan (has c.loop-i.want)) (sym on) (c.loop-i.invariant b)) (c.in_ok-want.ensures b)
 
-pub returns-in-err-want : goal.returns-in-err-want
-returns-in-err-want g c =
+pub returns-in_err-want : goal.returns-in_err-want
+returns-in_err-want g c =
     let p = g.P.Task.pile c.args.task.now in
     let t = meaning p in
     let plan = c.args.plan.now in
@@ -35,12 +35,12 @@ returns-in-err-want g c =
     let inside : i < length plan = omega arith in
     let exact : Built p → Wanted t plan None = λ b h.
     wanted_more t plan i (has c.loop-i.want) None inside
-    (subst (Rest t plan (has c.loop-i.want)) (sym on) (c.loop-i.invariant b)) (c.in-err-want.ensures b)
+    (subst (Rest t plan (has c.loop-i.want)) (sym on) (c.loop-i.invariant b)) (c.in_err-want.ensures b)
     (possible_drop t plan i h) in
-    let is = c.from-residual.ensures in
+    let is = c.from_residual.ensures in
     record {
       exact = λ b. subst (Wanted t plan) (sym is) (exact b);
-      regression = λ b. wanted_decides t plan c.from-residual.result (subst (Wanted t plan) (sym is) (exact b));
+      regression = λ b. wanted_decides t plan c.from_residual.result (subst (Wanted t plan) (sym is) (exact b));
       monotone = λ s s'. monotone t s s' plan;
     }
 

@@ -10,23 +10,23 @@ use Rattle.planning.proofs.Soundness.{built_sound, judgement}
 use Rattle.tasks.proofs.Steps.{judged_more}
 use Rattle.tasks.proofs.verdict.judge.Goals as goal
 
-pub returns-in-err-state : goal.returns-in-err-state
-returns-in-err-state g c =
+pub returns-in_err-state : goal.returns-in_err-state
+returns-in_err-state g c =
     let p = g.P.Task.pile c.args.task.now in
     let plan = c.args.plan.now in
     let i = c.loop-i.i in
-    let e = err_from_is_err_and c.from-residual.result c.from-residual.ensures.1 in
+    let e = err_from_is_err_and c.from_residual.result c.from_residual.ensures.1 in
     record {
       short = search rules;
-      judgement = λ b. judgement p b plan c.from-residual.result
-          (rw (e.1, e.2) (judged_more (meaning p) (i + 1) (has c.loop-i.state) plan i c.loop-i-test.true _ (c.in-err-state.ensures.exact b) ∙ c.loop-i.invariant.1 b));
+      judgement = λ b. judgement p b plan c.from_residual.result
+          (rw (e.1, e.2) (judged_more (meaning p) (i + 1) (has c.loop-i.state) plan i c.loop-i-test.true _ (c.in_err-state.ensures.exact b) ∙ c.loop-i.invariant.1 b));
     }
 
 pub loop-i-preserved : goal.loop-i-preserved
 loop-i-preserved g c =
     let p = g.P.Task.pile c.args.task.now in
     let i = c.loop-i.i in
-    let e = c.in-ok-state.ensures in
+    let e = c.in_ok-state.ensures in
     (e.near refl, λ b. judged_more (meaning p) (i + 1) (has c.loop-i.state) c.args.plan.now i c.loop-i-test.true _ (e.exact b) ∙ c.loop-i.invariant.1 b)
 
 pub returns : goal.returns

@@ -11,8 +11,8 @@ pub loop-i-init : goal.loop-i-init
 unfolding count
 loop-i-init c = refl
 
-pub overflow-add-n : goal.overflow-add-n
-overflow-add-n c =
+pub overflow_add-n : goal.overflow_add-n
+overflow_add-n c =
     let a = c.args.self in
     let i = c.loop-i.i in
     let fits : word a i < 2 ^ 64 = omega arith in

@@ -7,6 +7,6 @@ use Rattle.atoms.proofs.set.Atoms.is_subset.Goals as goal
 pub returns : goal.returns
 returns c =
     let left = c.minus.ensures in (
-      λ t p. within _ _ (ap (λ f. f p) (sym left ∙ c.is-empty.ensures.0 t)),
-      λ all. c.is-empty.ensures.1 (left ∙ fun_ext (λ p. without _ _ (all p))),
+      λ t p. within _ _ (ap (λ f. f p) (sym left ∙ c.is_empty.ensures.0 t)),
+      λ all. c.is_empty.ensures.1 (left ∙ fun_ext (λ p. without _ _ (all p))),
     )

@@ -8,16 +8,16 @@ use Rattle.layers.specs.Tables.{joins}
 use Rattle.layers.proofs.Additions.{added_none, added_one}
 use Rattle.layers.proofs.macro_layer.MacroLayer.add.Goals as goal
 
-pub returns-in-err-check : goal.returns-in-err-check
-returns-in-err-check g c =
+pub returns-in_err-check : goal.returns-in_err-check
+returns-in_err-check g c =
     let l = c.args.self.now in
     let p = g.T.Task.pile l.below in
-    let e = err_from_is_err_and c.from-residual.result c.from-residual.ensures.1 in
+    let e = err_from_is_err_and c.from_residual.result c.from_residual.ensures.1 in
     record {
       below = refl;
       from = refl;
       added = rw (e.1, e.2) (added_none joins (Built p) (MacroRows (meaning p)) (macro_row (meaning p) (joins l.table) c.args.row) l.table c.args.row
-          (λ b. macro_row_decides (meaning p) (built_sound p b).lawful (joins l.table) c.args.row) c.in-err-check.field-0.0 c.in-err-check.ensures.exact);
+          (λ b. macro_row_decides (meaning p) (built_sound p b).lawful (joins l.table) c.args.row) c.in_err-check.field-0.0 c.in_err-check.ensures.exact);
     }
 
 pub returns : goal.returns
@@ -29,5 +29,5 @@ returns g c =
       from = refl;
       added = added_one joins (Built p) (MacroRows (meaning p)) (macro_row (meaning p) (joins l.table) c.args.row) l.table c.args.row
           (λ b. macro_row_decides (meaning p) (built_sound p b).lawful (joins l.table) c.args.row) c.push-self.result
-          (c.push-self.ensures (c.in-ok-check.ensures.room refl)) c.in-ok-check.ensures.exact;
+          (c.push-self.ensures (c.in_ok-check.ensures.room refl)) c.in_ok-check.ensures.exact;
     }

@@ -15,20 +15,20 @@ returns-in-Some g c = record {
       let p = g.T.Task.pile l.below in
       let f : c.args.row.first < (meaning p).actions = omega (arith, c.actions-m.ensures b) in
       let s : c.args.row.second < (meaning p).actions = omega (arith, c.actions-m.ensures b) in
-      row_clash (meaning p) (built_sound p b).lawful (joins l.table) c.args.row (has c.clash-atoms.result) f s c.if-row-ge-NO-KIND.false
+      row_clash (meaning p) (built_sound p b).lawful (joins l.table) c.args.row (has c.clash-atoms.result) f s c.if-row-ge-NO_KIND.false
       (clash_is (meaning p) _ _ _ _ _ (c.action.ensures b) (c.action-2.ensures b) c.clash-atoms.ensures)
       c.in-Some.atom c.first_height.result c.in-Some.ensures (c.first_height.ensures b);
 }
 
 pub returns : goal.returns
 returns g c = record {
-  room = c.check-room.ensures.room;
+  room = c.check_room.ensures.room;
   exact = λ b.
       let l = c.args.self.now in
       let p = g.T.Task.pile l.below in
       let f : c.args.row.first < (meaning p).actions = omega (arith, c.actions-m.ensures b) in
       let s : c.args.row.second < (meaning p).actions = omega (arith, c.actions-m.ensures b) in
-      c.check-room.ensures.exact b
-      ∙ row_free (meaning p) (built_sound p b).lawful (joins l.table) c.args.row (has c.clash-atoms.result) f s c.if-row-ge-NO-KIND.false
-      (clash_is (meaning p) _ _ _ _ _ (c.action.ensures b) (c.action-2.ensures b) c.clash-atoms.ensures) c.in-default.ensures;
+      c.check_room.ensures.exact b
+      ∙ row_free (meaning p) (built_sound p b).lawful (joins l.table) c.args.row (has c.clash-atoms.result) f s c.if-row-ge-NO_KIND.false
+      (clash_is (meaning p) _ _ _ _ _ (c.action.ensures b) (c.action-2.ensures b) c.clash-atoms.ensures) c.in_default.ensures;
 }

@@ -14,7 +14,7 @@ returns-in-Some g c b =
     let w = c.in-Some.row in
     let f = c.action-in-Some.ensures b.0 in
     let s = c.action-in-Some-2.ensures b.0 in
-    let joined = c.join-actions.ensures in
+    let joined = c.join_actions.ensures in
     let by = row_by (joins l.table) t.actions l.from c.args.a w b.2 c.if-a-self.false c.in-Some.ensures in
     record {
       needs_are = joined.needs ∙ ap₂ (λ x y. x ∪ y ∖ has c.action-in-Some.result.adds) f.needs_are s.needs_are

@@ -13,7 +13,7 @@ returns g c b =
     let t = meaning (g.T.Task.pile l.below) in
     let law = (built_sound (g.T.Task.pile l.below) b.0).lawful in
     let acts = c.action-action.ensures b.0 in
-    let marks = c.marks-by-marks.ensures t a acts in
+    let marks = c.marks_by-marks.ensures t a acts in
     record {
       needs_are = mark_is t law (listed l.table) b.1 l.from _ (t.needs a) _ ((marks_of t l.table.rule).needs a) (has c.mark.result)
           b.2 acts.needs_are marks.needs_are (law.needs_under a) c.mark.ensures;

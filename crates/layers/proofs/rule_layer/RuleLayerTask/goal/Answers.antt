@@ -12,6 +12,6 @@ returns g c b =
     let l = c.args.self.now in
     let t = meaning (g.T.Task.pile l.below) in
     let law = (built_sound (g.T.Task.pile l.below) b.0).lawful in
-    mark_is t law (listed l.table) b.1 l.from (has c.goal.result) t.goal (has c.all-if-marks.result) _ (has c.mark.result)
-    b.2 (c.goal.ensures b.0) c.all-if-marks.ensures law.goal_under c.mark.ensures
-    ∙ mark_all t law (listed l.table) b.1 c.marks-end.result t.goal ∙ ap (marked t.atoms (listed l.table) t.goal) (sym (c.marks-end.ensures t))
+    mark_is t law (listed l.table) b.1 l.from (has c.goal.result) t.goal (has c.all_if-marks.result) _ (has c.mark.result)
+    b.2 (c.goal.ensures b.0) c.all_if-marks.ensures law.goal_under c.mark.ensures
+    ∙ mark_all t law (listed l.table) b.1 c.marks_end.result t.goal ∙ ap (marked t.atoms (listed l.table) t.goal) (sym (c.marks_end.ensures t))

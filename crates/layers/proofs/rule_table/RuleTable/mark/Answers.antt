@@ -21,7 +21,7 @@ loop-k-preserved c h u =
     let small : n + k < 320 = omega (arith, h, length-take-le t.len t.atoms (search rules)) in
     elim c.if-contains.branch [
       | then-contains w ↦ ap has w.marked-is ∙ w.insert-marked.ensures
-          ∙ marked_yes n k w.saturating-add.result t.atoms s m (has c.loop-k.marked) u inside small (omega (arith, w.saturating-add.ensures))
+          ∙ marked_yes n k w.saturating_add.result t.atoms s m (has c.loop-k.marked) u inside small (omega (arith, w.saturating_add.ensures))
           (sym c.contains.ensures.tells ∙ w.if-contains.true) (c.loop-k.invariant h u)
       | else-contains w ↦ ap has w.marked-is
           ∙ marked_no n k t.atoms s m (has c.loop-k.marked) u inside (sym c.contains.ensures.tells ∙ w.if-contains.false) (c.loop-k.invariant h u)

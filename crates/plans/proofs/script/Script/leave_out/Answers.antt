@@ -13,11 +13,11 @@ returns c =
     let plan = steps_of x.plan in
     let i = c.args.i in
     let left = c.without-self.result in
-    let actions = c.copy-within.new.self in
-    let size = ap length c.as-slice-steps.ensures.value in
-    let moved = c.copy-within.ensures.by_index in
+    let actions = c.copy_within.new.self in
+    let size = ap length c.as_slice-steps.ensures.value in
+    let moved = c.copy_within.ensures.by_index in
     record {
-      action = λ l. ap (λ r. get_or r i 0) c.as-slice-steps.ensures.value;
+      action = λ l. ap (λ r. get_or r i 0) c.as_slice-steps.ensures.value;
       plan = λ l. c.without-self.ensures l;
       scripted = λ t l s.
           let is = c.without-self.ensures l in

@@ -15,7 +15,7 @@ returns g c =
         initial_is = c.initial.ensures b;
         goal_is = c.goal.ensures b;
         each = λ k l.
-            let inside : k < c.loop-k.k = omega (arith, ap length c.as-slice-steps.ensures.value, c.loop-k-test.false) in
-            subst (λ (r : List ℕ). Acts (meaning p) (get_or r k 0) (get_or c.loop-k.actions k blank)) c.as-slice-steps.ensures.value (c.loop-k.invariant.1 b k inside);
+            let inside : k < c.loop-k.k = omega (arith, ap length c.as_slice-steps.ensures.value, c.loop-k-test.false) in
+            subst (λ (r : List ℕ). Acts (meaning p) (get_or r k 0) (get_or c.loop-k.actions k blank)) c.as_slice-steps.ensures.value (c.loop-k.invariant.1 b k inside);
       };
     }

@@ -12,9 +12,9 @@ returns-in-Some-parts g c =
     let t = meaning (g.P.Task.pile o.pile) in
     let i = c.args.i in
     let plan = steps_of c.in-Some.plan in
-    let size = ap length c.as-slice-steps.ensures in
+    let size = ap length c.as_slice-steps.ensures in
     let inside : i ≤ length plan = omega (arith, size, c.if-i-steps.true) in
-    let at = ap (λ r. get_or r (i - 1) 0) c.as-slice-steps.ensures ∙ action_index plan i c.if-i-gt0.true in
+    let at = ap (λ r. get_or r (i - 1) 0) c.as_slice-steps.ensures ∙ action_index plan i c.if-i-gt0.true in
     record {
       pile = c.edit.ensures.pile;
       tariff = c.edit.ensures.tariff;

@@ -3,4 +3,4 @@ use Rattle.tariffs.specs.Laws.{same_cents}
 use Rattle.tariffs.proofs.bank.BankTariff.charge.Goals as goal
 
 pub returns : goal.returns
-returns c = same_cents _ _ (omega (arith, c.new.ensures, c.row-at.ensures))
+returns c = same_cents _ _ (omega (arith, c.new.ensures, c.row_at.ensures))
