@@ -7,14 +7,14 @@ use Rattle.service.proofs.order.Order.charge_all.Goals as goal
 
 pub loop-a-init : goal.loop-a-init
 loop-a-init g c b =
-    let am = g.Amount.Amount.amounts in
+    let am = g.F.Amount.Amount.amounts in
     let o = c.args.self.now in
     let row = charge am (g.F.Tariff.price o.tariff) (meaning (g.P.Task.pile o.pile)) in
     ap (λ s. am.join s (row c.args.steps.now)) c.nought-sum.ensures ∙ am.unit _
 
 pub loop-a-preserved : goal.loop-a-preserved
 loop-a-preserved g c b =
-    let am = g.Amount.Amount.amounts in
+    let am = g.F.Amount.Amount.amounts in
     let o = c.args.self.now in
     let price = g.F.Tariff.price o.tariff in
     let t = meaning (g.P.Task.pile o.pile) in
@@ -26,7 +26,7 @@ loop-a-preserved g c b =
 
 pub returns : goal.returns
 returns g c b =
-    let am = g.Amount.Amount.amounts in
+    let am = g.F.Amount.Amount.amounts in
     let o = c.args.self.now in
     let row = charge am (g.F.Tariff.price o.tariff) (meaning (g.P.Task.pile o.pile)) in
     let s = c.loop-a.sum in

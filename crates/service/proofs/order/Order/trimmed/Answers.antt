@@ -8,7 +8,7 @@ use Rattle.service.proofs.order.Order.trimmed.Goals as goal
 
 pub loop-init : goal.loop-init
 loop-init g c b =
-    let am = g.Amount.Amount.amounts in
+    let am = g.F.Amount.Amount.amounts in
     let o = c.args.self.now in
     let price = g.F.Tariff.price o.tariff in
     let t = meaning (g.P.Task.pile o.pile) in
@@ -19,7 +19,7 @@ loop-init g c b =
 
 pub returns-in_default : goal.returns-in_default
 returns-in_default g c =
-    let am = g.Amount.Amount.amounts in
+    let am = g.F.Amount.Amount.amounts in
     let o = c.args.self.now in
     let price = g.F.Tariff.price o.tariff in
     let t = meaning (g.P.Task.pile o.pile) in
@@ -34,7 +34,7 @@ returns-in_default g c =
 
 pub loop-preserved : goal.loop-preserved
 loop-preserved g c b =
-    let am = g.Amount.Amount.amounts in
+    let am = g.F.Amount.Amount.amounts in
     let o = c.args.self.now in
     let price = g.F.Tariff.price o.tariff in
     let t = meaning (g.P.Task.pile o.pile) in
@@ -53,7 +53,7 @@ loop-preserved g c b =
 
 pub returns : goal.returns
 returns g c =
-    let am = g.Amount.Amount.amounts in
+    let am = g.F.Amount.Amount.amounts in
     let o = c.args.self.now in
     let price = g.F.Tariff.price o.tariff in
     let t = meaning (g.P.Task.pile o.pile) in

@@ -7,4 +7,4 @@ use Rattle.service.proofs.order.Order.trimmed.Given as goal
 abbrev pub invariant-loop : goal.invariant-loop
 invariant-loop g l =
     let p = g.P.Task.pile l.self.pile in
-    Built p → Leads g.Amount.Amount.amounts (g.F.Tariff.price l.self.tariff) (meaning p) (steps_of l.initial.left) (l.end - l.counter) (steps_of l.left) l.credit
+    Built p → Leads g.F.Amount.Amount.amounts (g.F.Tariff.price l.self.tariff) (meaning p) (steps_of l.initial.left) (l.end - l.counter) (steps_of l.left) l.credit
