@@ -1,4 +1,4 @@
-// Each test goes through a table: a row that fails ends it, and is named by the note.
+// Each test goes through a table: a row that fails ends it, and is named by the message.
 mod growth;
 mod heights;
 mod macro_rows;
@@ -15,7 +15,6 @@ use atoms::Atoms;
 use layers::{MacroLayer, RuleLayer};
 use planning::{Fault, Join, Refusal, Rule, RuleSort};
 use std::process::Abort;
-use std::test::Fail;
 use tasks::judge;
 use tasks::task::Task;
 
@@ -91,23 +90,17 @@ fn joined<T: Task + Drop>(rt: &impl Abort, below: T, rows: &[(u16, u16, u16)]) -
 }
 
 // The set has the atoms of the list, which names none twice, and no others.
-fn check_set(rt: &impl Abort, set: Atoms, atoms: &[u16]) -> Result<(), Fail> {
+fn check_set(rt: &impl Abort, what: &str, set: Atoms, atoms: &[u16]) {
     for p in atoms {
-        assert!(rt; set.contains(*p), "atom {p}");
+        assert!(rt; set.contains(*p), "{what}: atom {p}");
     }
-    assert_eq!(rt; set.count() as usize, atoms.len());
-    Ok(())
+    assert_eq!(rt; set.count() as usize, atoms.len(), "{what}");
 }
 
-fn check_plans<T: Task>(
-    rt: &impl Abort,
-    task: &T,
-    rows: &[(&[u16], Result<(), Fault>)],
-) -> Result<(), Fail> {
+fn check_plans<T: Task>(rt: &impl Abort, task: &T, rows: &[(&[u16], Result<(), Fault>)]) {
     for (plan, want) in rows {
         assert_eq!(rt; judge(task, plan), *want, "plan {plan:?}");
     }
-    Ok(())
 }
 
 // An action: what it needs, deletes and adds.
@@ -118,8 +111,8 @@ fn check_sets<T: Task>(
     needs: &[u16],
     deletes: &[u16],
     adds: &[u16],
-) -> Result<(), Fail> {
-    check_set(rt, task.needs(a), needs).note("needs")?;
-    check_set(rt, task.deletes(a), deletes).note("deletes")?;
-    check_set(rt, task.adds(a), adds).note("adds")
+) {
+    check_set(rt, "needs", task.needs(a), needs);
+    check_set(rt, "deletes", task.deletes(a), deletes);
+    check_set(rt, "adds", task.adds(a), adds);
 }

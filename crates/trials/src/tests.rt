@@ -1,4 +1,4 @@
-// Each test goes through a table: a row that fails ends it, and is named by the note.
+// Each test goes through a table: a row that fails ends it, and is named by the message.
 mod amounts;
 mod bench;
 mod full;
@@ -9,7 +9,6 @@ mod sets;
 use atoms::Atoms;
 use planning::{Fault, Refusal};
 use std::process::Abort;
-use std::test::Fail;
 
 // What a plan is to get that is refused over a bottom, where every atom first appears at height 0.
 fn refused(refusal: Refusal, place: usize, atom: u16, missing: u16) -> Result<(), Fault> {
@@ -31,10 +30,9 @@ fn set_of(atoms: &[u16]) -> Atoms {
 }
 
 // The set has the atoms of the list, which names none twice, and no others.
-fn check_set(rt: &impl Abort, set: Atoms, atoms: &[u16]) -> Result<(), Fail> {
+fn check_set(rt: &impl Abort, what: &str, set: Atoms, atoms: &[u16]) {
     for p in atoms {
-        assert!(rt; set.contains(*p), "atom {p}");
+        assert!(rt; set.contains(*p), "{what}: atom {p}");
     }
-    assert_eq!(rt; set.count() as usize, atoms.len());
-    Ok(())
+    assert_eq!(rt; set.count() as usize, atoms.len(), "{what}");
 }

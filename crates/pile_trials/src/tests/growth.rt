@@ -7,44 +7,37 @@ use std::process::Abort;
 // One atom more over the bench: if it is refused, no answer changes, and else none of the earlier ones, and its mark is the next.
 fn check_listing(
     rt: &impl Abort,
+    what: &str,
     rule: Rule,
     listed: &[u16],
     p: u16,
     want: Result<(), Fault>,
     atoms: u16,
-) -> Result<(), Fail> {
+) {
     let before = ruled(rt, Bench, rule, listed);
     let mut after = ruled(rt, Bench, rule, listed);
-    assert_eq!(rt; after.add(p), want);
+    assert_eq!(rt; after.add(p), want, "{what}: {p} after {listed:?}");
     assert_eq!(rt; after.atoms(), atoms, "atoms");
     assert_eq!(rt; after.actions(), 6, "actions");
-    check_kept(rt, &before, &after).note("earlier answers")?;
+    check_kept(rt, &before, &after);
     if want.is_err() {
-        check_same(rt, &before, &after).note("all answers")?;
+        check_same(rt, &before, &after);
     }
-    Ok(())
 }
 
-fn check_each_rule(
-    rt: &impl Abort,
-    listed: &[u16],
-    p: u16,
-    want: Result<(), Fault>,
-    atoms: u16,
-) -> Result<(), Fail> {
+fn check_each_rule(rt: &impl Abort, listed: &[u16], p: u16, want: Result<(), Fault>, atoms: u16) {
     for (what, rule) in [
         ("successor", successor(2, 3, false)),
         ("strict successor", successor(4, 1, true)),
         ("predecessor", predecessor(4, 1, false)),
         ("strict predecessor", predecessor(2, 3, true)),
     ] {
-        check_listing(rt, rule, listed, p, want, atoms).note(what)?;
+        check_listing(rt, what, rule, listed, p, want, atoms);
     }
-    Ok(())
 }
 
 #[test]
-fn listing(rt: HostRuntime) -> Result<(), Fail> {
+fn listing(rt: HostRuntime) {
     let bad = row_refused(Refusal::BadAtom);
     let rows: [(&[u16], u16, Result<(), Fault>, u16); 8] = [
         (&[], 0, Ok(()), 6),
@@ -57,9 +50,8 @@ fn listing(rt: HostRuntime) -> Result<(), Fail> {
         (&[0, 1, 2, 3, 4], 5, bad, 10),
     ];
     for (listed, p, want, atoms) in rows {
-        check_each_rule(&rt, listed, p, want, atoms).note(format_args!("{p} after {listed:?}"))?;
+        check_each_rule(&rt, listed, p, want, atoms);
     }
-    Ok(())
 }
 
 fn check_joining(
@@ -68,15 +60,16 @@ fn check_joining(
     (a, b, kind): (u16, u16, u16),
     want: Result<(), Fault>,
     actions: u16,
-) -> Result<(), Fail> {
+) {
     let before = joined(rt, Bench, old);
     let mut after = joined(rt, Bench, old);
-    assert_eq!(rt; after.add(join(a, b, kind)), want);
+    assert_eq!(rt; after.add(join(a, b, kind)), want, "{a}, {b} after {old:?}");
     assert_eq!(rt; after.actions(), actions, "actions");
     assert_eq!(rt; after.atoms(), 5, "atoms");
-    check_kept(rt, &before, &after).note("earlier answers")?;
+    check_kept(rt, &before, &after);
     if want.is_err() {
-        return check_same(rt, &before, &after).note("all answers");
+        check_same(rt, &before, &after);
+        return;
     }
     let last = actions.saturating_sub(1);
     assert_eq!(rt;
@@ -84,11 +77,10 @@ fn check_joining(
         (Some((a, b)), kind),
         "the new action"
     );
-    Ok(())
 }
 
 #[test]
-fn joining(rt: HostRuntime) -> Result<(), Fail> {
+fn joining(rt: HostRuntime) {
     let rows: [(&[(u16, u16, u16)], (u16, u16, u16), Result<(), Fault>, u16); 8] = [
         (&[], (1, 2, 6), Ok(()), 7),
         (&[], (3, 1, 6), refused(Refusal::NotJoinable, 0, 0, 0, 0), 6),
@@ -115,14 +107,13 @@ fn joining(rt: HostRuntime) -> Result<(), Fail> {
         ),
     ];
     for (old, row, want, actions) in rows {
-        check_joining(&rt, old, row, want, actions).note(format_args!("{row:?} after {old:?}"))?;
+        check_joining(&rt, old, row, want, actions);
     }
-    Ok(())
 }
 
 // Tables that are full, and one with room for a last row.
 #[test]
-fn full_tables(rt: HostRuntime) -> Result<(), Fail> {
+fn full_tables(rt: HostRuntime) {
     let old = [(0, 1, 6); 16];
     for (len, row, want) in [
         (16, (0, 1, 6), row_refused(Refusal::TableFull)),
@@ -135,12 +126,7 @@ fn full_tables(rt: HostRuntime) -> Result<(), Fail> {
         ),
         (15, (0, 1, 6), Ok(())),
     ] {
-        if len > 16 {
-            return Err(Fail::new(format_args!("{len} rows, over 16")));
-        }
-        check_joining(&rt, &old[0..len], row, want, 22).note(format_args!(
-            "{row:?} after {len} rows"
-        ))?;
+        assert!(rt; len <= 16, "{len} rows, over 16");
+        check_joining(&rt, &old[0..len], row, want, 22);
     }
-    Ok(())
 }

@@ -39,7 +39,7 @@ fn first_heights(rt: HostRuntime) {
 }
 
 #[test]
-fn layers_of_faults(rt: HostRuntime) -> Result<(), Fail> {
+fn layers_of_faults(rt: HostRuntime) {
     let task = tower(&rt);
     check_plans(
         &rt,
@@ -54,7 +54,7 @@ fn layers_of_faults(rt: HostRuntime) -> Result<(), Fail> {
             (&[0, 4, 1, 2, 3], Ok(())),
             (&[0, 4, 1, 2, 3, 5], lacks_mark(6, 6, 3)),
         ],
-    )?;
+    );
     let mut top = MacroLayer::new(task);
     for (a, b, atom, layer) in [
         (3, 1, 0, 0),
@@ -69,7 +69,6 @@ fn layers_of_faults(rt: HostRuntime) -> Result<(), Fail> {
             "{a}, {b}"
         );
     }
-    Ok(())
 }
 
 // The height of a task, of both layers over it and of a mark there, and the same one layer higher.
@@ -111,35 +110,37 @@ fn heights_to_the_limit(rt: HostRuntime) {
     }
 }
 
-fn check_raised<X: Task, Y: Task>(rt: &impl Abort, x: &X, y: &Y, height: u8) -> Result<(), Fail> {
-    check_same(rt, x, y)?;
-    assert_eq!(rt; y.height(), height, "height");
-    Ok(())
+fn check_raised<X: Task, Y: Task>(rt: &impl Abort, what: &str, x: &X, y: &Y, height: u8) {
+    check_same(rt, x, y);
+    assert_eq!(rt; y.height(), height, "height of {what}");
 }
 
 // Layers with no row over the bench and over three layers.
 #[test]
-fn empty_layers(rt: HostRuntime) -> Result<(), Fail> {
+fn empty_layers(rt: HostRuntime) {
     for (what, rule) in [
         ("successor", successor(2, 3, false)),
         ("strict successor", successor(2, 3, true)),
         ("predecessor", predecessor(4, 1, false)),
         ("strict predecessor", predecessor(4, 1, true)),
     ] {
-        check_raised(&rt, &Bench, &RuleLayer::new(Bench, rule), 1).note(what)?;
-        check_raised(&rt, &tower(&rt), &RuleLayer::new(tower(&rt), rule), 4).note(format_args!(
-            "{what} over layers"
-        ))?;
+        check_raised(&rt, what, &Bench, &RuleLayer::new(Bench, rule), 1);
+        check_raised(&rt, what, &tower(&rt), &RuleLayer::new(tower(&rt), rule), 4);
     }
-    check_raised(&rt, &Bench, &MacroLayer::new(Bench), 1).note("macros")?;
-    check_raised(&rt, &tower(&rt), &MacroLayer::new(tower(&rt)), 4).note("macros over layers")?;
+    check_raised(&rt, "macros", &Bench, &MacroLayer::new(Bench), 1);
+    check_raised(
+        &rt,
+        "macros over layers",
+        &tower(&rt),
+        &MacroLayer::new(tower(&rt)),
+        4,
+    );
     let empties = MacroLayer::new(RuleLayer::new(Bench, successor(2, 3, true)));
-    check_raised(&rt, &Bench, &empties, 2).note("macros over a rule")?;
+    check_raised(&rt, "macros over a rule", &Bench, &empties, 2);
     let marked = ruled(&rt, empties, successor(2, 3, true), &[2]);
     assert_eq!(rt;
         (marked.height(), marked.first_height(5)),
         (3, 3),
         "a mark over empty layers"
     );
-    Ok(())
 }

@@ -20,15 +20,22 @@ fn check_next(
     (a, b, kind): (u16, u16, u16),
     want: Result<(), Fault>,
     actions: u16,
-) -> Result<(), Fail> {
+) {
     let mut layer = repeating(rt, n, len);
-    assert_eq!(rt; layer.add(join(a, b, kind)), want);
-    assert_eq!(rt; layer.actions(), actions);
-    Ok(())
+    assert_eq!(rt;
+        layer.add(join(a, b, kind)),
+        want,
+        "{n} actions, {len} rows, then {a}, {b}"
+    );
+    assert_eq!(rt;
+        layer.actions(),
+        actions,
+        "{n} actions, {len} rows, then {a}, {b}"
+    );
 }
 
 #[test]
-fn limits(rt: HostRuntime) -> Result<(), Fail> {
+fn limits(rt: HostRuntime) {
     let (full, over) = (
         row_refused(Refusal::TableFull),
         row_refused(Refusal::OverLimit),
@@ -47,15 +54,12 @@ fn limits(rt: HostRuntime) -> Result<(), Fail> {
         (288, 0, (287, 287, 0), over, 288),
     ];
     for (n, len, row, want, actions) in rows {
-        check_next(&rt, n, len, row, want, actions).note(format_args!(
-            "{n} actions, {len} rows, then {row:?}"
-        ))?;
+        check_next(&rt, n, len, row, want, actions);
     }
-    Ok(())
 }
 
 #[test]
-fn unknown_actions_and_kinds(rt: HostRuntime) -> Result<(), Fail> {
+fn unknown_actions_and_kinds(rt: HostRuntime) {
     let first = refused(Refusal::UnknownAction, 1, 0, 0, 0);
     let second = refused(Refusal::UnknownAction, 2, 0, 0, 0);
     let kind = row_refused(Refusal::BadKindOrName);
@@ -82,11 +86,8 @@ fn unknown_actions_and_kinds(rt: HostRuntime) -> Result<(), Fail> {
         (288, 0, (0, 0, 65535), kind, 288),
     ];
     for (n, len, row, want, actions) in rows {
-        check_next(&rt, n, len, row, want, actions).note(format_args!(
-            "{n} actions, {len} rows, then {row:?}"
-        ))?;
+        check_next(&rt, n, len, row, want, actions);
     }
-    Ok(())
 }
 
 // The atom in the way of joining two actions of the bench.

@@ -10,7 +10,7 @@ fn check_mark(
     needing: &[u16],
     deleting: &[u16],
     adding: &[u16],
-) -> Result<(), Fail> {
+) {
     let layer = ruled(rt, Bench, rule, &[p]);
     for a in [0, 1, 2, 3, 4, 5, 6, 7, 287, 288, 65535] {
         let got = [
@@ -23,14 +23,13 @@ fn check_mark(
             deleting.contains(&a),
             adding.contains(&a),
         ];
-        assert_eq!(rt; got, want, "action {a}");
+        assert_eq!(rt; got, want, "atom {p}, action {a}");
     }
-    Ok(())
 }
 
 // The kinds of a rule, a listed atom, and the actions that need, delete and add its mark.
 #[test]
-fn of_successors(rt: HostRuntime) -> Result<(), Fail> {
+fn of_successors(rt: HostRuntime) {
     let rows: [(u16, u16, u16, &[u16], &[u16], &[u16]); 9] = [
         (2, 3, 0, &[1, 2, 4], &[], &[0, 3, 4]),
         (2, 3, 1, &[], &[], &[1, 4]),
@@ -50,14 +49,12 @@ fn of_successors(rt: HostRuntime) -> Result<(), Fail> {
             needing,
             deleting,
             adding,
-        )
-        .note(format_args!("{first} for {second}, atom {p}"))?;
+        );
     }
-    Ok(())
 }
 
 #[test]
-fn of_predecessors(rt: HostRuntime) -> Result<(), Fail> {
+fn of_predecessors(rt: HostRuntime) {
     let rows: [(u16, u16, u16, &[u16], &[u16], &[u16]); 8] = [
         (4, 1, 0, &[1], &[0], &[4]),
         (2, 3, 1, &[3], &[1], &[]),
@@ -76,15 +73,13 @@ fn of_predecessors(rt: HostRuntime) -> Result<(), Fail> {
             needing,
             deleting,
             adding,
-        )
-        .note(format_args!("{first} for {second}, atom {p}"))?;
+        );
     }
-    Ok(())
 }
 
 // Of two listed atoms: the atoms at first and those of the goal.
 #[test]
-fn at_the_ends(rt: HostRuntime) -> Result<(), Fail> {
+fn at_the_ends(rt: HostRuntime) {
     let rows: [(&str, Rule, &[u16], &[u16]); 4] = [
         ("successor", successor(2, 3, false), &[5, 6], &[3]),
         (
@@ -98,15 +93,14 @@ fn at_the_ends(rt: HostRuntime) -> Result<(), Fail> {
     ];
     for (what, rule, initial, goal) in rows {
         let layer = ruled(&rt, Bench, rule, &[1, 3]);
-        check_set(&rt, layer.initial(), initial).note(format_args!("{what}, at first"))?;
-        check_set(&rt, layer.goal(), goal).note(format_args!("{what}, goal"))?;
+        check_set(&rt, what, layer.initial(), initial);
+        check_set(&rt, what, layer.goal(), goal);
     }
-    Ok(())
 }
 
 // Each mark of a long list watches over its own atom: 0 to 4, behind the five atoms.
 #[test]
-fn in_order(rt: HostRuntime) -> Result<(), Fail> {
+fn in_order(rt: HostRuntime) {
     let layer = ruled(&rt, Bench, successor(2, 3, false), &[0, 1, 2, 3, 4]);
     let rows: [(u16, &[u16], &[u16], &[u16]); 7] = [
         (0, &[], &[], &[0, 5]),
@@ -118,7 +112,6 @@ fn in_order(rt: HostRuntime) -> Result<(), Fail> {
         (6, &[], &[], &[]),
     ];
     for (a, needs, deletes, adds) in rows {
-        check_sets(&rt, &layer, a, needs, deletes, adds).note(format_args!("action {a}"))?;
+        check_sets(&rt, &layer, a, needs, deletes, adds);
     }
-    Ok(())
 }

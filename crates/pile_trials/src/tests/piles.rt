@@ -12,11 +12,11 @@ fn align_for_seal() -> Rule {
 }
 
 #[test]
-fn macros_over_a_rule(rt: HostRuntime) -> Result<(), Fail> {
+fn macros_over_a_rule(rt: HostRuntime) {
     let rule = ruled(&rt, Bench, reset_first(), &[0]);
     let mut layer = joined(&rt, rule, &[(4, 1, 6), (1, 2, 7)]);
-    check_sets(&rt, &layer, 6, &[0], &[1, 2], &[0, 1, 5]).note("reset, load-keys")?;
-    check_sets(&rt, &layer, 7, &[0, 5], &[], &[1, 2]).note("load-keys, align")?;
+    check_sets(&rt, &layer, 6, &[0], &[1, 2], &[0, 1, 5]);
+    check_sets(&rt, &layer, 7, &[0, 5], &[], &[1, 2]);
     check_plans(
         &rt,
         &layer,
@@ -28,18 +28,17 @@ fn macros_over_a_rule(rt: HostRuntime) -> Result<(), Fail> {
             (&[7], refused(Refusal::NotApplicable, 1, 0, 1, 0)),
             (&[0, 6, 0, 7], lacks_mark(4, 5, 1)),
         ],
-    )?;
+    );
     let clash = refused(Refusal::NotJoinable, 0, 5, 0, 1);
     assert_eq!(rt; layer.add(join(0, 1, 8)), clash, "power-on, load-keys");
-    Ok(())
 }
 
 #[test]
-fn macros_over_two_rules(rt: HostRuntime) -> Result<(), Fail> {
+fn macros_over_two_rules(rt: HostRuntime) {
     let first = ruled(&rt, Bench, reset_first(), &[0]);
     let second = ruled(&rt, first, align_for_seal(), &[2]);
     let layer = joined(&rt, second, &[(1, 2, 6)]);
-    check_sets(&rt, &layer, 6, &[0, 5], &[6], &[1, 2]).note("load-keys, align")?;
+    check_sets(&rt, &layer, 6, &[0, 5], &[6], &[1, 2]);
     check_plans(
         &rt,
         &layer,
@@ -49,7 +48,7 @@ fn macros_over_two_rules(rt: HostRuntime) -> Result<(), Fail> {
             (&[0, 4, 6, 3, 5], lacks_mark(5, 6, 2)),
             (&[0, 4, 6, 5], refused(Refusal::NotApplicable, 4, 3, 2, 0)),
         ],
-    )
+    );
 }
 
 // A rule reads the macro's own kind.
@@ -92,7 +91,7 @@ fn a_rule_over_a_macro_that_uses(rt: HostRuntime) {
 }
 
 #[test]
-fn two_rules_over_macros(rt: HostRuntime) -> Result<(), Fail> {
+fn two_rules_over_macros(rt: HostRuntime) {
     let macros = joined(&rt, Bench, &[(1, 2, 6), (0, 1, 1)]);
     let first = ruled(&rt, macros, align_for_seal(), &[2]);
     let layer = ruled(&rt, first, reset_first(), &[0]);
@@ -108,12 +107,12 @@ fn two_rules_over_macros(rt: HostRuntime) -> Result<(), Fail> {
             (&[7, 1, 2, 3], lacks_mark(2, 6, 3)),
             (&[7, 4, 1, 2, 3], Ok(())),
         ],
-    )
+    );
 }
 
 // Two macro layers, and what is over the limits there.
 #[test]
-fn macros_of_macros(rt: HostRuntime) -> Result<(), Fail> {
+fn macros_of_macros(rt: HostRuntime) {
     let first = joined(&rt, Bench, &[(0, 1, 6), (2, 3, 7)]);
     let second = joined(&rt, first, &[(6, 7, 8), (7, 5, 9)]);
     let layer = joined(&rt, second, &[(8, 0, 10), (6, 9, 11)]);
@@ -126,7 +125,7 @@ fn macros_of_macros(rt: HostRuntime) -> Result<(), Fail> {
         (11, (6, 9), &[0, 1, 2, 3, 5], &[], &[0], &[1, 2, 3, 4]),
     ];
     for (a, parts, base, needs, deletes, adds) in rows {
-        check_sets(&rt, &layer, a, needs, deletes, adds).note(format_args!("action {a}"))?;
+        check_sets(&rt, &layer, a, needs, deletes, adds);
         assert_eq!(rt;
             (layer.parts(a), layer.kind(a)),
             (Some(parts), a),
@@ -145,7 +144,7 @@ fn macros_of_macros(rt: HostRuntime) -> Result<(), Fail> {
             (&[7], refused(Refusal::NotApplicable, 1, 0, 2, 0)),
             (&[11], Ok(())),
         ],
-    )
+    );
 }
 
 // Up to 8 base steps: actions 10 and 11 have 8, and 10 deletes atom 0.
@@ -156,7 +155,7 @@ fn base_steps(rt: HostRuntime) {
     let third = joined(&rt, second, &[(8, 9, 10), (8, 8, 11), (8, 6, 12)]);
     assert_eq!(rt;
         third.base_steps(10).as_slice(),
-        &[0, 1, 0, 1, 0, 1, 2, 3],
+        [0, 1, 0, 1, 0, 1, 2, 3].as_slice(),
         "action 10"
     );
     let over = row_refused(Refusal::OverLimit);

@@ -12,22 +12,14 @@ fn listing(rt: &impl Abort, n: u16, len: u16) -> RuleLayer<Full> {
 }
 
 // Over `n` atoms, the first `len` of them listed, one more: what it gets, and how many atoms there are then.
-fn check_next(
-    rt: &impl Abort,
-    n: u16,
-    len: u16,
-    p: u16,
-    want: Result<(), Fault>,
-    atoms: u16,
-) -> Result<(), Fail> {
+fn check_next(rt: &impl Abort, n: u16, len: u16, p: u16, want: Result<(), Fault>, atoms: u16) {
     let mut layer = listing(rt, n, len);
-    assert_eq!(rt; layer.add(p), want);
-    assert_eq!(rt; layer.atoms(), atoms);
-    Ok(())
+    assert_eq!(rt; layer.add(p), want, "{n} atoms, {len} listed, then {p}");
+    assert_eq!(rt; layer.atoms(), atoms, "{n} atoms, {len} listed, then {p}");
 }
 
 #[test]
-fn limits(rt: HostRuntime) -> Result<(), Fail> {
+fn limits(rt: HostRuntime) {
     let (full, over) = (
         row_refused(Refusal::TableFull),
         row_refused(Refusal::OverLimit),
@@ -49,15 +41,12 @@ fn limits(rt: HostRuntime) -> Result<(), Fail> {
         (320, 0, 319, over, 320),
     ];
     for (n, len, p, want, atoms) in rows {
-        check_next(&rt, n, len, p, want, atoms).note(format_args!(
-            "{n} atoms, {len} listed, then {p}"
-        ))?;
+        check_next(&rt, n, len, p, want, atoms);
     }
-    Ok(())
 }
 
 #[test]
-fn bad_atoms(rt: HostRuntime) -> Result<(), Fail> {
+fn bad_atoms(rt: HostRuntime) {
     let bad = row_refused(Refusal::BadAtom);
     let rows = [
         (0, 0, 0, bad, 0),
@@ -80,11 +69,8 @@ fn bad_atoms(rt: HostRuntime) -> Result<(), Fail> {
         (320, 0, 320, bad, 320),
     ];
     for (n, len, p, want, atoms) in rows {
-        check_next(&rt, n, len, p, want, atoms).note(format_args!(
-            "{n} atoms, {len} listed, then {p}"
-        ))?;
+        check_next(&rt, n, len, p, want, atoms);
     }
-    Ok(())
 }
 
 // Lists with gaps over 40 atoms, and one more atom.

@@ -3,29 +3,19 @@ use crate::Wide;
 use pad::{Bench, judge_ruled};
 use std::process::Abort;
 
-fn check_bench(
-    rt: &impl Abort,
-    rule: Rule,
-    listed: &[u16],
-    rows: &[(&[u16], Result<(), Fault>)],
-) -> Result<(), Fail> {
+fn check_bench(rt: &impl Abort, rule: Rule, listed: &[u16], rows: &[(&[u16], Result<(), Fault>)]) {
     let layer = ruled(rt, Bench, rule, listed);
-    check_plans(rt, &layer, rows).note(format_args!("atoms {listed:?}"))
+    check_plans(rt, &layer, rows);
 }
 
-fn check_wide(
-    rt: &impl Abort,
-    rule: Rule,
-    listed: &[u16],
-    rows: &[(&[u16], Result<(), Fault>)],
-) -> Result<(), Fail> {
+fn check_wide(rt: &impl Abort, rule: Rule, listed: &[u16], rows: &[(&[u16], Result<(), Fault>)]) {
     let layer = ruled(rt, Wide::new(2), rule, listed);
-    check_plans(rt, &layer, rows).note(format_args!("atoms {listed:?}"))
+    check_plans(rt, &layer, rows);
 }
 
 // Only reset provides atom 0 for load-keys.
 #[test]
-fn predecessors(rt: HostRuntime) -> Result<(), Fail> {
+fn predecessors(rt: HostRuntime) {
     check_bench(
         &rt,
         predecessor(4, 1, false),
@@ -51,11 +41,11 @@ fn predecessors(rt: HostRuntime) -> Result<(), Fail> {
             (&[0, 4, 1, 2], refused(Refusal::GoalNotMet, 5, 3, 1, 0)),
             (&[0, 6], refused(Refusal::UnknownAction, 2, 0, 0, 0)),
         ],
-    )
+    );
 }
 
 #[test]
-fn strict_predecessors(rt: HostRuntime) -> Result<(), Fail> {
+fn strict_predecessors(rt: HostRuntime) {
     check_bench(
         &rt,
         predecessor(4, 1, true),
@@ -66,7 +56,7 @@ fn strict_predecessors(rt: HostRuntime) -> Result<(), Fail> {
             (&[0, 1, 2, 3], lacks_mark(2, 5, 1)),
             (&[0, 4, 1, 2, 3], Ok(())),
         ],
-    )?;
+    );
     let free: &[(&[u16], Result<(), Fault>)] = &[
         (&[], refused(Refusal::GoalNotMet, 1, 1, 1, 0)),
         (&[0], Ok(())),
@@ -76,7 +66,7 @@ fn strict_predecessors(rt: HostRuntime) -> Result<(), Fail> {
         (&[1, 0, 0], lacks_mark(3, 2, 1)),
         (&[0, 1, 0], Ok(())),
     ];
-    check_wide(&rt, predecessor(1, 0, false), &[0], free).note("not strict")?;
+    check_wide(&rt, predecessor(1, 0, false), &[0], free);
     let strict: &[(&[u16], Result<(), Fault>)] = &[
         (&[], refused(Refusal::GoalNotMet, 1, 1, 1, 0)),
         (&[0], lacks_mark(1, 2, 1)),
@@ -85,12 +75,12 @@ fn strict_predecessors(rt: HostRuntime) -> Result<(), Fail> {
         (&[1, 0, 0], lacks_mark(3, 2, 1)),
         (&[1, 1, 0], Ok(())),
     ];
-    check_wide(&rt, predecessor(1, 0, true), &[0], strict).note("strict")
+    check_wide(&rt, predecessor(1, 0, true), &[0], strict);
 }
 
 // Of what align left of atom 2, seal alone makes use.
 #[test]
-fn successors(rt: HostRuntime) -> Result<(), Fail> {
+fn successors(rt: HostRuntime) {
     check_bench(
         &rt,
         successor(2, 3, false),
@@ -108,11 +98,11 @@ fn successors(rt: HostRuntime) -> Result<(), Fail> {
             ),
             (&[0, 1, 2, 3, 0, 4, 2, 5], lacks_mark(8, 5, 1)),
         ],
-    )
+    );
 }
 
 #[test]
-fn strict_successors(rt: HostRuntime) -> Result<(), Fail> {
+fn strict_successors(rt: HostRuntime) {
     check_bench(
         &rt,
         successor(2, 3, true),
@@ -128,7 +118,7 @@ fn strict_successors(rt: HostRuntime) -> Result<(), Fail> {
                 refused(Refusal::GoalNotMet, 8, 5, 1, 1),
             ),
         ],
-    )?;
+    );
     let rows: &[(&[u16], Result<(), Fault>)] = &[
         (&[0], refused(Refusal::GoalNotMet, 2, 2, 2, 1)),
         (&[0, 0], lacks_mark(2, 2, 1)),
@@ -136,11 +126,11 @@ fn strict_successors(rt: HostRuntime) -> Result<(), Fail> {
         (&[0, 1], Ok(())),
         (&[0, 1, 0], refused(Refusal::GoalNotMet, 4, 2, 2, 1)),
     ];
-    check_wide(&rt, successor(0, 1, true), &[0, 1], rows)
+    check_wide(&rt, successor(0, 1, true), &[0, 1], rows);
 }
 
 #[test]
-fn several_atoms(rt: HostRuntime) -> Result<(), Fail> {
+fn several_atoms(rt: HostRuntime) {
     check_bench(
         &rt,
         successor(4, 1, false),
@@ -151,12 +141,12 @@ fn several_atoms(rt: HostRuntime) -> Result<(), Fail> {
             (&[0, 4, 0, 2, 1, 3], Ok(())),
             (&[0, 1, 2, 3], Ok(())),
         ],
-    )
+    );
 }
 
 // A rule for what seal needs: its first kind, whether it is strict, a plan and the verdict.
 #[test]
-fn two_atoms_for_one_use(rt: HostRuntime) -> Result<(), Fail> {
+fn two_atoms_for_one_use(rt: HostRuntime) {
     let both = refused(Refusal::NotApplicable, 4, 5, 2, 1);
     let service: &[u16] = &[0, 1, 2, 3];
     for (first, strict, plan, want) in [
@@ -169,11 +159,8 @@ fn two_atoms_for_one_use(rt: HostRuntime) -> Result<(), Fail> {
         (2, true, &[3], refused(Refusal::NotApplicable, 1, 1, 4, 0)),
     ] {
         let rule = predecessor(first, 3, strict);
-        check_bench(&rt, rule, &[1, 2], &[(plan, want)]).note(format_args!(
-            "kind {first}, strict {strict}"
-        ))?;
+        check_bench(&rt, rule, &[1, 2], &[(plan, want)]);
     }
-    Ok(())
 }
 
 // The bench under a rule for one atom, which may be refused.

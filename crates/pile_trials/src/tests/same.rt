@@ -3,47 +3,33 @@ use super::*;
 use std::process::Abort;
 
 // What is answered about one action, of its sets the atoms of `within`.
-fn check_action<X: Task, Y: Task>(
-    rt: &impl Abort,
-    x: &X,
-    y: &Y,
-    a: u16,
-    within: Atoms,
-) -> Result<(), Fail> {
+fn check_action<X: Task, Y: Task>(rt: &impl Abort, x: &X, y: &Y, a: u16, within: Atoms) {
     assert_eq!(rt;
         y.needs(a).intersection(within),
         x.needs(a).intersection(within),
-        "needs"
+        "needs of {a}"
     );
     assert_eq!(rt;
         y.deletes(a).intersection(within),
         x.deletes(a).intersection(within),
-        "deletes"
+        "deletes of {a}"
     );
     assert_eq!(rt;
         y.adds(a).intersection(within),
         x.adds(a).intersection(within),
-        "adds"
+        "adds of {a}"
     );
-    assert_eq!(rt; y.kind(a), x.kind(a), "kind");
+    assert_eq!(rt; y.kind(a), x.kind(a), "kind of {a}");
     assert_eq!(rt; y.parts(a), x.parts(a), "parts");
     let (base, old) = (y.base_steps(a), x.base_steps(a));
     assert_eq!(rt; base.as_slice(), old.as_slice(), "base steps");
-    Ok(())
 }
 
 // The actions below `count`.
-fn check_actions<X: Task, Y: Task>(
-    rt: &impl Abort,
-    x: &X,
-    y: &Y,
-    count: u16,
-    within: Atoms,
-) -> Result<(), Fail> {
+fn check_actions<X: Task, Y: Task>(rt: &impl Abort, x: &X, y: &Y, count: u16, within: Atoms) {
     for a in 0..count {
-        check_action(rt, x, y, a, within).note(format_args!("action {a}"))?;
+        check_action(rt, x, y, a, within);
     }
-    Ok(())
 }
 
 // The atoms below `count`.
@@ -65,26 +51,25 @@ fn below(n: u16) -> Atoms {
 }
 
 // Every answer but the height, for known numbers and others.
-pub fn check_same<X: Task, Y: Task>(rt: &impl Abort, x: &X, y: &Y) -> Result<(), Fail> {
+pub fn check_same<X: Task, Y: Task>(rt: &impl Abort, x: &X, y: &Y) {
     assert_eq!(rt;
         [y.atoms(), y.actions()],
         [x.atoms(), x.actions()],
         "counts"
     );
     check_atoms(rt, x, y, 330);
-    check_actions(rt, x, y, 300, below(320))?;
-    check_action(rt, x, y, 65535, below(320)).note("action 65535")?;
+    check_actions(rt, x, y, 300, below(320));
+    check_action(rt, x, y, 65535, below(320));
     assert_eq!(rt;
         y.first_height(65535),
         x.first_height(65535),
         "height of atom 65535"
     );
-    Ok(())
 }
 
 // Every answer about the actions of `x`, as far as its atoms go, and about these.
-pub fn check_kept<X: Task, Y: Task>(rt: &impl Abort, x: &X, y: &Y) -> Result<(), Fail> {
+pub fn check_kept<X: Task, Y: Task>(rt: &impl Abort, x: &X, y: &Y) {
     assert_eq!(rt; y.height(), x.height(), "height");
     check_atoms(rt, x, y, x.atoms());
-    check_actions(rt, x, y, x.actions(), below(x.atoms()))
+    check_actions(rt, x, y, x.actions(), below(x.atoms()));
 }

@@ -11,23 +11,22 @@ fn check_action(
     adds: &[u16],
     kind: u16,
     base: &[u16],
-) -> Result<(), Fail> {
+) {
     let action = Bench.action(a);
-    check_set(rt, action.needs, needs).note("needs")?;
-    check_set(rt, action.deletes, deletes).note("deletes")?;
-    check_set(rt, action.adds, adds).note("adds")?;
-    assert_eq!(rt; [action.kind, Bench.kind(a)], [kind, kind], "kind");
-    check_set(rt, Bench.needs(a), needs).note("needs alone")?;
-    check_set(rt, Bench.deletes(a), deletes).note("deletes alone")?;
-    check_set(rt, Bench.adds(a), adds).note("adds alone")?;
-    assert_eq!(rt; Bench.base_steps(a).as_slice(), base, "base steps");
-    assert_eq!(rt; Bench.parts(a), None, "parts");
-    Ok(())
+    check_set(rt, "needs", action.needs, needs);
+    check_set(rt, "deletes", action.deletes, deletes);
+    check_set(rt, "adds", action.adds, adds);
+    assert_eq!(rt; [action.kind, Bench.kind(a)], [kind, kind], "kind of {a}");
+    check_set(rt, "needs alone", Bench.needs(a), needs);
+    check_set(rt, "deletes alone", Bench.deletes(a), deletes);
+    check_set(rt, "adds alone", Bench.adds(a), adds);
+    assert_eq!(rt; Bench.base_steps(a).as_slice(), base, "base steps of {a}");
+    assert_eq!(rt; Bench.parts(a), None, "parts of {a}");
 }
 
 // An action: what it needs, deletes and adds, its kind, its base steps.
 #[test]
-fn actions_known_and_unknown(rt: HostRuntime) -> Result<(), Fail> {
+fn actions_known_and_unknown(rt: HostRuntime) {
     let rows: [(u16, &[u16], &[u16], &[u16], u16, &[u16]); 13] = [
         (0, &[], &[], &[0], 0, &[0]),
         (1, &[0], &[], &[1], 1, &[1]),
@@ -44,19 +43,12 @@ fn actions_known_and_unknown(rt: HostRuntime) -> Result<(), Fail> {
         (65535, &[], &[], &[], 65535, &[]),
     ];
     for (a, needs, deletes, adds, kind, base) in rows {
-        check_action(&rt, a, needs, deletes, adds, kind, base).note(format_args!("action {a}"))?;
+        check_action(&rt, a, needs, deletes, adds, kind, base);
     }
-    Ok(())
 }
 
 // Which of some actions need, delete and add an atom.
-fn check_atom(
-    rt: &impl Abort,
-    p: u16,
-    needing: &[u16],
-    deleting: &[u16],
-    adding: &[u16],
-) -> Result<(), Fail> {
+fn check_atom(rt: &impl Abort, p: u16, needing: &[u16], deleting: &[u16], adding: &[u16]) {
     for a in [0, 1, 2, 3, 4, 5, 6, 7, 255, 256, 287, 288, 65535] {
         let got = [
             Bench.needs(a).contains(p),
@@ -68,16 +60,15 @@ fn check_atom(
             deleting.contains(&a),
             adding.contains(&a),
         ];
-        assert_eq!(rt; got, want, "action {a}");
+        assert_eq!(rt; got, want, "atom {p}, action {a}");
     }
-    assert_eq!(rt; Bench.first_height(p), 0);
-    assert!(rt; !Bench.initial().contains(p));
-    Ok(())
+    assert_eq!(rt; Bench.first_height(p), 0, "atom {p}");
+    assert!(rt; !Bench.initial().contains(p), "atom {p}");
 }
 
 // An atom: whether it is in the goal, and the actions that need, delete and add it.
 #[test]
-fn atoms_known_and_unknown(rt: HostRuntime) -> Result<(), Fail> {
+fn atoms_known_and_unknown(rt: HostRuntime) {
     let rows: [(u16, bool, &[u16], &[u16], &[u16]); 10] = [
         (0, false, &[1, 2, 4], &[3], &[0, 4]),
         (1, false, &[3], &[4], &[1]),
@@ -92,9 +83,8 @@ fn atoms_known_and_unknown(rt: HostRuntime) -> Result<(), Fail> {
     ];
     for (p, wanted, needing, deleting, adding) in rows {
         assert_eq!(rt; Bench.goal().contains(p), wanted, "atom {p} of the goal");
-        check_atom(&rt, p, needing, deleting, adding).note(format_args!("atom {p}"))?;
+        check_atom(&rt, p, needing, deleting, adding);
     }
-    Ok(())
 }
 
 #[test]

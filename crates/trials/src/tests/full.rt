@@ -41,30 +41,21 @@ fn plans_of_every_size(rt: HostRuntime) {
     }
 }
 
-fn check_all(
-    rt: &impl Abort,
-    set: Atoms,
-    n: u16,
-    low: Option<u16>,
-    high: Option<u16>,
-) -> Result<(), Fail> {
-    assert_eq!(rt; (set.count(), set.lowest(), set.greatest()), (n, low, high));
-    assert!(rt; !set.contains(n));
-    Ok(())
+fn check_all(rt: &impl Abort, what: &str, set: Atoms, n: u16, low: Option<u16>, high: Option<u16>) {
+    assert_eq!(rt;
+        (set.count(), set.lowest(), set.greatest()),
+        (n, low, high),
+        "{what}"
+    );
+    assert!(rt; !set.contains(n), "{what}: atom {n}");
 }
 
-fn check_size(
-    rt: &impl Abort,
-    task: Full,
-    n: u16,
-    low: Option<u16>,
-    high: Option<u16>,
-) -> Result<(), Fail> {
+fn check_size(rt: &impl Abort, task: Full, n: u16, low: Option<u16>, high: Option<u16>) {
     assert_eq!(rt; task.atoms(), n);
-    check_all(rt, task.goal(), n, low, high).note("goal")?;
-    check_all(rt, task.adds(0), n, low, high).note("adds")?;
-    check_all(rt, task.needs(1), n, low, high).note("needs")?;
-    check_all(rt, task.deletes(1), n, low, high).note("deletes")?;
+    check_all(rt, "goal", task.goal(), n, low, high);
+    check_all(rt, "adds", task.adds(0), n, low, high);
+    check_all(rt, "needs", task.needs(1), n, low, high);
+    check_all(rt, "deletes", task.deletes(1), n, low, high);
     assert!(rt; task.initial().is_empty(), "initial");
     assert_eq!(rt;
         [
@@ -72,14 +63,14 @@ fn check_size(
             task.deletes(0).count(),
             task.adds(1).count(),
         ],
-        [0, 0, 0]
+        [0, 0, 0],
+        "{n} atoms"
     );
-    Ok(())
 }
 
 // How many atoms are asked for, how many there are, the lowest and the greatest.
 #[test]
-fn sets_of_every_size(rt: HostRuntime) -> Result<(), Fail> {
+fn sets_of_every_size(rt: HostRuntime) {
     let rows = [
         (0, 0, None, None),
         (1, 1, Some(0), Some(0)),
@@ -92,9 +83,8 @@ fn sets_of_every_size(rt: HostRuntime) -> Result<(), Fail> {
         (65535, 320, Some(0), Some(319)),
     ];
     for (given, n, low, high) in rows {
-        check_size(&rt, Full::new(given, 0), n, low, high).note(format_args!("{given} atoms"))?;
+        check_size(&rt, Full::new(given, 0), n, low, high);
     }
-    Ok(())
 }
 
 // The kind asked for, and the one that both actions have.

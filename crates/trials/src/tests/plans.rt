@@ -35,7 +35,7 @@ fn worked_plans(rt: HostRuntime) {
 
 // Plans that are all power-on but for the listed steps.
 #[test]
-fn long_plans(rt: HostRuntime) -> Result<(), Fail> {
+fn long_plans(rt: HostRuntime) {
     let rows: [(usize, &[(usize, u16)], Result<(), Fault>); 12] = [
         (0, &[], refused(Refusal::GoalNotMet, 1, 3, 1)),
         (1, &[], refused(Refusal::GoalNotMet, 2, 3, 1)),
@@ -55,37 +55,27 @@ fn long_plans(rt: HostRuntime) -> Result<(), Fail> {
         (300, &[(1, 3)], refused(Refusal::NotApplicable, 2, 1, 2)),
     ];
     for (len, steps, want) in rows {
-        if len > ROOM {
-            return Err(Fail::new(format_args!("{len} steps, over {ROOM}")));
-        }
+        assert!(rt; len <= ROOM, "{len} steps, over {ROOM}");
         let plan = plan_with(steps);
         assert_eq!(rt; Bench.judge(&plan[0..len]), want, "{len} steps, {steps:?}");
     }
-    Ok(())
 }
 
 // One step from the empty state.
-fn check_step(
-    rt: &impl Abort,
-    place: usize,
-    a: u16,
-    want: Result<(), Fault>,
-    after: &[u16],
-) -> Result<(), Fail> {
+fn check_step(rt: &impl Abort, place: usize, a: u16, want: Result<(), Fault>, after: &[u16]) {
     match step(&Bench, place, a, Atoms::empty()) {
         Ok(state) => {
-            assert_eq!(rt; Ok(()), want);
-            check_set(rt, state, after)
+            assert_eq!(rt; Ok(()), want, "place {place}, action {a}");
+            check_set(rt, "state", state, after);
         }
         Err(fault) => {
-            assert_eq!(rt; Err(fault), want);
-            Ok(())
-        },
+            assert_eq!(rt; Err(fault), want, "place {place}, action {a}");
+        }
     }
 }
 
 #[test]
-fn steps_at_places(rt: HostRuntime) -> Result<(), Fail> {
+fn steps_at_places(rt: HostRuntime) {
     let rows: [(usize, u16, Result<(), Fault>, &[u16]); 8] = [
         (1, 0, Ok(()), &[0]),
         (256, 0, Ok(()), &[0]),
@@ -97,14 +87,13 @@ fn steps_at_places(rt: HostRuntime) -> Result<(), Fail> {
         (65536, 0, refused(Refusal::TooManySteps, 65536, 0, 0), &[]),
     ];
     for (place, a, want, after) in rows {
-        check_step(&rt, place, a, want, after).note(format_args!("place {place}, action {a}"))?;
+        check_step(&rt, place, a, want, after);
     }
-    Ok(())
 }
 
 // A state, what an action deletes and what it adds, and the state after it: what it does both with stays.
 #[test]
-fn states_after_actions(rt: HostRuntime) -> Result<(), Fail> {
+fn states_after_actions(rt: HostRuntime) {
     let rows: [(&[u16], &[u16], &[u16], &[u16]); 6] = [
         (&[], &[], &[], &[]),
         (&[63], &[63], &[64], &[64]),
@@ -119,28 +108,24 @@ fn states_after_actions(rt: HostRuntime) -> Result<(), Fail> {
             adds: set_of(adds),
             ..Action::unknown()
         };
-        check_set(&rt, action.after(set_of(state)), after).note(format_args!(
-            "{state:?} without {deletes:?}, with {adds:?}"
-        ))?;
+        check_set(&rt, "after", action.after(set_of(state)), after);
     }
-    Ok(())
 }
 
-fn check_wants(rt: &impl Abort, plan: &[u16], possible: bool, atoms: &[u16]) -> Result<(), Fail> {
+fn check_wants(rt: &impl Abort, plan: &[u16], possible: bool, atoms: &[u16]) {
     match wants(&Bench, plan) {
         Some(set) => {
-            assert!(rt; possible);
-            check_set(rt, set, atoms)
+            assert!(rt; possible, "plan {plan:?}");
+            check_set(rt, "wanted", set, atoms);
         }
         None => {
-            assert!(rt; !possible);
-            Ok(())
-        },
+            assert!(rt; !possible, "plan {plan:?}");
+        }
     }
 }
 
 #[test]
-fn wanted_before_plans(rt: HostRuntime) -> Result<(), Fail> {
+fn wanted_before_plans(rt: HostRuntime) {
     let rows: [(&[u16], bool, &[u16]); 9] = [
         (&[], true, &[3]),
         (&[3], true, &[1, 2]),
@@ -153,7 +138,6 @@ fn wanted_before_plans(rt: HostRuntime) -> Result<(), Fail> {
         (&[6, 0, 1, 2, 3], false, &[]),
     ];
     for (plan, possible, atoms) in rows {
-        check_wants(&rt, plan, possible, atoms).note(format_args!("plan {plan:?}"))?;
+        check_wants(&rt, plan, possible, atoms);
     }
-    Ok(())
 }

@@ -1,22 +1,22 @@
 use super::*;
 use std::process::Abort;
 
-fn check_one(rt: &impl Abort, p: u16, there: Option<u16>, beside: &[u16]) -> Result<(), Fail> {
+fn check_one(rt: &impl Abort, p: u16, there: Option<u16>, beside: &[u16]) {
     let set = Atoms::empty().insert(p);
-    assert_eq!(rt; set.contains(p), there.is_some(), "contains");
-    assert_eq!(rt; set.is_empty(), there.is_none(), "is_empty");
+    assert_eq!(rt; set.contains(p), there.is_some(), "contains {p}");
+    assert_eq!(rt; set.is_empty(), there.is_none(), "is_empty with {p}");
     assert_eq!(rt;
         [set.lowest(), set.greatest()],
         [there, there],
-        "lowest, greatest"
+        "lowest, greatest of {p}"
     );
-    assert_eq!(rt; set.insert(p), set, "twice");
-    check_set(rt, set.insert(100), beside).note("beside 100")
+    assert_eq!(rt; set.insert(p), set, "{p} twice");
+    check_set(rt, "beside 100", set.insert(100), beside);
 }
 
 // An atom, what is there once it is put in, and the set that it gives with 100.
 #[test]
-fn one_atom(rt: HostRuntime) -> Result<(), Fail> {
+fn one_atom(rt: HostRuntime) {
     let rows: [(u16, Option<u16>, &[u16]); 6] = [
         (0, Some(0), &[0, 100]),
         (63, Some(63), &[63, 100]),
@@ -26,9 +26,8 @@ fn one_atom(rt: HostRuntime) -> Result<(), Fail> {
         (65535, None, &[100]),
     ];
     for (p, there, beside) in rows {
-        check_one(&rt, p, there, beside).note(format_args!("atom {p}"))?;
+        check_one(&rt, p, there, beside);
     }
-    Ok(())
 }
 
 #[test]
@@ -55,22 +54,15 @@ fn ends_and_counts(rt: HostRuntime) {
     }
 }
 
-fn check_pair(
-    rt: &impl Abort,
-    a: Atoms,
-    b: Atoms,
-    either: &[u16],
-    both: &[u16],
-    less: &[u16],
-) -> Result<(), Fail> {
-    check_set(rt, a.union(b), either).note("union")?;
-    check_set(rt, a.intersection(b), both).note("intersection")?;
-    check_set(rt, a.minus(b), less).note("minus")
+fn check_pair(rt: &impl Abort, a: Atoms, b: Atoms, either: &[u16], both: &[u16], less: &[u16]) {
+    check_set(rt, "union", a.union(b), either);
+    check_set(rt, "intersection", a.intersection(b), both);
+    check_set(rt, "minus", a.minus(b), less);
 }
 
 // Two sets, then their union, their intersection and the first without the second.
 #[test]
-fn made_of_two_sets(rt: HostRuntime) -> Result<(), Fail> {
+fn made_of_two_sets(rt: HostRuntime) {
     let rows: [(&[u16], &[u16], &[u16], &[u16], &[u16]); 10] = [
         (&[], &[], &[], &[], &[]),
         (&[0], &[], &[0], &[], &[0]),
@@ -90,11 +82,8 @@ fn made_of_two_sets(rt: HostRuntime) -> Result<(), Fail> {
         (&[320], &[65535], &[], &[], &[]),
     ];
     for (a, b, either, both, less) in rows {
-        check_pair(&rt, set_of(a), set_of(b), either, both, less).note(format_args!(
-            "{a:?} and {b:?}"
-        ))?;
+        check_pair(&rt, set_of(a), set_of(b), either, both, less);
     }
-    Ok(())
 }
 
 // Two sets, whether the first is within the second, and whether they are equal.
