@@ -1,16 +1,15 @@
 -- A fold or unfold of a macro of the topmost layer never breaks a plan: it is refused for its form only.
 use Rattle.std.proofs.Common.{◌≡◌, ℕ, suc, ◌+◌, ◌-◌, ◌<◌, ◌≤◌, Bool, true, false, cond, ltb, List, [], ◌∷◌, ◌++◌, length, get_or, take, drop, is_ok, Some, None, Ok, Err, Option, sym, refl, ap, ◌∙◌, subst, ap₂, inl, inr, ⊎_elim, append_assoc, arith}
 use Rattle.std.proofs.ByRecursion.{All-append, All-take, All-drop}
-use Rattle.std.proofs.lemmas.Bool.{cases_lt, ltb-false, ltb-true, false≢true}
+use Rattle.std.proofs.lemmas.Bool.{cases_lt, ltb-false, false≢true}
 use Rattle.planning.specs.Tasks.{Task, Lawful, Solves}
 use Rattle.planning.specs.Faults.{at_place}
 use Rattle.planning.specs.Places.{action_at}
 use Rattle.planning.specs.Macros.{blank, macro_task, unfolded as both, spread}
 use Rattle.planning.specs.Rows.{RowFits, MacroRows}
 use Rattle.planning.specs.Verdicts.{Verdict, and_then, judged}
-use Rattle.planning.specs.Edits.{Edited, splice, tried, is_place, are_places, are_parts, folded, opened, unfolded, OnlyForm}
+use Rattle.planning.specs.Edits.{splice, tried, is_place, are_places, are_parts, folded, opened, unfolded, OnlyForm}
 use Rattle.planning.specs.Piles.{Known}
-use Rattle.planning.specs.declared.fault.Fault.{Fault}
 use Rattle.planning.specs.declared.join.Join.{Join}
 use Rattle.planning.specs.declared.refusal.Refusal.TheVariants.{TooManySteps, UnknownAction, NoStep, NotTheParts}
 use Rattle.planning.proofs.Macros.{by_row_old, by_row_new, some_pair, row_fits, spread_iff, macro_lawful}

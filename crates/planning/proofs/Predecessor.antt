@@ -1,5 +1,5 @@
 -- The marks of a predecessor layer say what its rule says.
-use Rattle.std.proofs.Common.{◌≡◌, ℕ, zero, suc, ◌-◌, ◌<◌, ◌≤◌, Bool, true, false, cond, not, ◌&&◌, ◌||◌, T, eqb, ◌↔◌, List, [], ◌∷◌, length, get_or, take, sym, refl, subst, arith, eqb→eq}
+use Rattle.std.proofs.Common.{◌≡◌, ℕ, zero, suc, ◌<◌, ◌≤◌, Bool, true, false, cond, not, ◌&&◌, ◌||◌, T, ◌↔◌, List, [], ◌∷◌, length, get_or, take, sym, refl, subst, arith, eqb→eq}
 use Rattle.planning.specs.Sets.{AtomSet}
 use Rattle.planning.specs.Tasks.{Task, after, finally, Reaches, Solves, Lawful}
 use Rattle.planning.specs.Places.{action_at, state_before}

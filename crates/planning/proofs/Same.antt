@@ -1,9 +1,8 @@
 -- Sets that agree below a number: an equivalence.
 use Rattle.std.specs.Prelude.{Decides}
-use Rattle.std.specs.Bool.{one_answer}
 use Rattle.std.specs.Cmp.{IsEquivalence}
-use Rattle.std.proofs.Common.{◌≡◌, ℕ, ◌<◌, Bool, true, false, not, ◌&&◌, T, is_some, is_none, sym, refl, ap, ◌∙◌, ⊎_elim}
-use Rattle.std.proofs.lemmas.Bool.{cases_lt, true≢false}
+use Rattle.std.proofs.Common.{◌≡◌, ℕ, ◌<◌, Bool, true, false, not, ◌&&◌, T, is_some, is_none, sym, refl, ap, ◌∙◌}
+use Rattle.std.proofs.lemmas.Bool.{true≢false}
 use Rattle.planning.specs.Sets.{AtomSet, ◌∖◌, ◌⊆◌, Under, lowest, same_below}
 use Rattle.planning.proofs.Counts.{lowest_none, lowest_empty}
 

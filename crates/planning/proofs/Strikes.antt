@@ -1,5 +1,5 @@
 -- Which steps a plan can do without, by the states before them and what the rest wants.
-use Rattle.std.proofs.Common.{◌≡◌, ℕ, ◌+◌, ◌<◌, ◌≤◌, Bool, true, false, List, [], ◌∷◌, ◌++◌, length, get_or, take, drop, sym, refl, ap, ◌∙◌, subst, arith}
+use Rattle.std.proofs.Common.{◌≡◌, ℕ, ◌+◌, ◌<◌, ◌≤◌, Bool, true, false, List, [], ◌∷◌, ◌++◌, length, get_or, take, drop, refl, ◌∙◌, subst, arith}
 use Rattle.std.proofs.lemmas.List.{length-take-le, get_or_append_left, get_or-take, take-append-le, take-take}
 use Rattle.planning.specs.Sets.{AtomSet}
 use Rattle.planning.specs.Tasks.{Task, Lawful, after, finally, Applicable, Runs, Reaches}

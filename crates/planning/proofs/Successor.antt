@@ -1,5 +1,5 @@
 -- The marks of a successor layer say what its rule says.
-use Rattle.std.proofs.Common.{◌≡◌, ℕ, zero, suc, ◌-◌, ◌<◌, Bool, true, false, cond, not, ◌&&◌, ◌||◌, T, eqb, ◌↔◌, List, [], ◌∷◌, length, get_or, sym, refl, subst, arith, eqb→eq}
+use Rattle.std.proofs.Common.{◌≡◌, ℕ, zero, suc, ◌<◌, Bool, true, false, cond, not, ◌&&◌, ◌||◌, T, eqb, ◌↔◌, List, [], ◌∷◌, length, get_or, sym, refl, subst, arith, eqb→eq}
 use lib.Dec.{eqb_refl}
 use Rattle.planning.specs.Sets.{AtomSet}
 use Rattle.planning.specs.Tasks.{Task, after, finally, Reaches, Solves, Lawful}

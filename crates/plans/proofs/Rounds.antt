@@ -1,8 +1,8 @@
 -- A trim under way: what is left of the plan, and the actions that left it so far.
-use Rattle.std.proofs.Common.{◌≡◌, ℕ, zero, suc, ◌<◌, List, [], ◌∷◌, ◌++◌, length, get_or, Some, None, Option, sym, refl, ap, ◌∙◌, subst, arith}
+use Rattle.std.proofs.Common.{◌≡◌, ℕ, zero, suc, ◌<◌, List, [], ◌∷◌, ◌++◌, length, get_or, Some, None, Option, sym, refl, ap, ◌∙◌, subst}
 use Rattle.std.proofs.lemmas.List.{append-nil, append_assoc}
 use Rattle.planning.specs.Tasks.{Task}
-use Rattle.planning.specs.Trims.{Trim, left_out, strikable, trim_at, trim_by, trimmed}
+use Rattle.planning.specs.Trims.{left_out, strikable, trim_at, trim_by, trimmed}
 use Rattle.planning.proofs.Trims.{left_shorter}
 
 module _ (t : Task) (plan : List ℕ) where

@@ -1,7 +1,6 @@
-use Rattle.std.proofs.Common.{◌≡◌, ℕ, ◌+◌, ◌-◌, ◌<◌, ◌≤◌, length, get_or, ap, ◌∙◌, ⊎_elim, arith}
+use Rattle.std.proofs.Common.{◌+◌, ◌-◌, ◌<◌, length, get_or, ap, ◌∙◌, ⊎_elim, arith}
 use Rattle.std.proofs.lemmas.Bool.{cases_lt}
 use Rattle.planning.proofs.Trims.{left_shorter}
-use Rattle.tasks.specs.Answers.{Acts}
 use Rattle.plans.specs.Scripts.{blank}
 use Rattle.plans.specs.Steps.{steps_of}
 use Rattle.plans.proofs.Gaps.{below_gap, above_gap, acts_moved}

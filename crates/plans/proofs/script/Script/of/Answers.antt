@@ -1,4 +1,4 @@
-use Rattle.std.proofs.Common.{◌≡◌, ℕ, ◌<◌, List, length, get_or, sym, refl, ap, ◌∙◌, subst, arith}
+use Rattle.std.proofs.Common.{ℕ, ◌<◌, List, length, get_or, refl, ap, subst, arith}
 use Rattle.planning.specs.Piles.{meaning}
 use Rattle.planning.proofs.Soundness.{built_sound}
 use Rattle.tasks.specs.Answers.{Acts}

@@ -1,7 +1,6 @@
-use Rattle.std.proofs.Common.{◌≡◌, ℕ, ◌+◌, ◌<◌, ◌≤◌, true, false, length, get_or, None, sym, ap, ◌∙◌, ap₂, arith}
+use Rattle.std.proofs.Common.{◌≡◌, ℕ, ◌+◌, ◌<◌, true, false, length, get_or, None, ap, ◌∙◌, ap₂, arith}
 use Rattle.atoms.specs.Has.{has}
 use Rattle.planning.specs.Sets.{◌∪◌, ◌∖◌}
-use Rattle.plans.specs.Scripts.{blank}
 use Rattle.plans.specs.Steps.{steps_of}
 use Rattle.plans.proofs.Passes.{strike_here, strike_none, strike_never, passed_more}
 use Rattle.plans.proofs.script.Script.strikable.Goals as goal
