@@ -1,6 +1,6 @@
 -- A task given by rows that fit is a bottom.
 use Rattle.std.proofs.Common.{◌≡◌, ℕ, ◌<◌, ◌≤◌, Bool, cond, ◌||◌, T, ltb, List, [], ◌∷◌, length, sym, refl, ap, subst, ⊎_elim, arith, lit≤, eqb→eq}
-use Rattle.std.specs.List.{AllByRecursion as All}
+use Rattle.std.specs.List.{AllByRecursion}
 use Rattle.std.proofs.ByRecursion.{All-get_or}
 use Rattle.std.proofs.lemmas.Bool.{cases_lt, lt-ltb, le-ltb, cond-true, cond-false}
 use Rattle.planning.specs.Sets.{AtomSet, none, only, ◌∪◌, Under}
@@ -18,7 +18,7 @@ union_under n a b u v p h = go (a p) (b p) h (u p) (v p)
     go : (x y : Bool) → T (x || y) → (T x → p < n) → (T y → p < n) → p < n
     go x y h f g = grind arith
 
-pub set_at_under : (n : ℕ) (sets : List AtomSet) → All (Under n) sets → (a : ℕ) → a < length sets → Under n (set_at sets a)
+pub set_at_under : (n : ℕ) (sets : List AtomSet) → AllByRecursion (Under n) sets → (a : ℕ) → a < length sets → Under n (set_at sets a)
 set_at_under n sets h a l = All-get_or (Under n) sets a none l h
 
 module _ (n m : ℕ) (initial goal : AtomSet) (row : ℕ → Row) where

@@ -1,6 +1,6 @@
 -- A row is accepted exactly when the rows with it behind them are acceptable.
 use Rattle.std.proofs.Common.{◌≡◌, ℕ, ◌+◌, ◌-◌, ◌<◌, Bool, true, false, cond, not, ◌&&◌, ◌||◌, T, eqb, ltb, leb, List, [], ◌∷◌, ◌++◌, length, get_or, is_ok, Some, None, Ok, Err, Decides, Option, sym, refl, ap, ◌∙◌, subst, ⊎_elim, arith, MatchOption}
-use Rattle.std.specs.List.{AllByRecursion as All}
+use Rattle.std.specs.List.{AllByRecursion}
 use Rattle.std.proofs.ByRecursion.{All-append}
 use Rattle.std.proofs.lemmas.List.{get_or_append_left, get_or_push, length_push}
 use Rattle.std.proofs.lemmas.Bool.{cases_lt, cases_eq, false≢true, leb-true, leb-false, ltb-true, ltb-false, eqb-true, or_parts, or_cases, or_left, or_right, eq-eqb, lt-ltb, not-false, not_from_true}
@@ -14,7 +14,7 @@ use Rattle.planning.specs.declared.refusal.Refusal.TheVariants.{BadAtom, TableFu
 use Rattle.planning.proofs.Counts.{lowest_tells}
 
 -- the rows before the last, and the last
-all_push : {X : Type 0} (P : X → Type 0) (xs : List X) (x : X) → All P (xs ++ x ∷ []) → All P xs × P x
+all_push : {X : Type 0} (P : X → Type 0) (xs : List X) (x : X) → AllByRecursion P (xs ++ x ∷ []) → AllByRecursion P xs × P x
 all_push P [] x h = (tt, h.0)
 all_push P (y ∷ xs) x h = let r = all_push P xs x h.1 in ((h.0, r.0), r.1)
 

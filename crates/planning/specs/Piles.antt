@@ -1,6 +1,6 @@
 -- A pile: a bottom task with layers stacked on it, and what it means.
 use Rattle.std.specs.Prelude.{◌≡◌, ℕ, ◌<◌, ◌↔◌, List}
-use Rattle.std.specs.List.{flat_map, AllByRecursion as All}
+use Rattle.std.specs.List.{flat_map, AllByRecursion}
 use Rattle.planning.specs.Tasks.{Task, Lawful, Solves}
 use Rattle.planning.specs.Bottoms.{Bottom}
 use Rattle.planning.specs.Rules.{KeepsRule}
@@ -64,7 +64,7 @@ raised t = record {
 }
 
 abbrev pub Known : Task → List ℕ → Type 0
-Known t plan = All (λ a. a < t.actions) plan
+Known t plan = AllByRecursion (λ a. a < t.actions) plan
 
 -- the plan written out solves the bottom task, and it keeps each layer's rule
 abbrev pub Good : Pile → List ℕ → Type 0

@@ -1,6 +1,6 @@
 -- Which rows a layer accepts, and with what it refuses the others.
 use Rattle.std.specs.Prelude.{ℕ, ◌+◌, ◌-◌, ◌<◌, ◌≤◌, Bool, cond, not, ◌||◌, List, [], ◌∷◌, ◌++◌, length, Some, None, Ok, Err, Option, Result, ◌==◌, nat_le, nat_lt, slice_index}
-use Rattle.std.specs.List.{AllByRecursion as All}
+use Rattle.std.specs.List.{AllByRecursion}
 use Rattle.planning.specs.Sets.{lowest}
 use Rattle.planning.specs.Tasks.{Task}
 use Rattle.planning.specs.Faults.{at_place}
@@ -14,7 +14,7 @@ abbrev pub Rising : List ℕ → Type 0
 Rising listed = (i j : ℕ) → i < j → j < length listed → slice_index listed i < slice_index listed j
 
 pub record RuleRows (t : Task) (listed : List ℕ) : Type 0 where
-  pub known : All (λ p. p < t.atoms) listed
+  pub known : AllByRecursion (λ p. p < t.atoms) listed
   pub rising : Rising listed
   pub few : length listed ≤ 32
   pub room : t.atoms + length listed ≤ 320
@@ -39,7 +39,7 @@ pub record RowFits (t : Task) (w : Join) : Type 0 where
   pub short : length (t.base_steps w.first) + length (t.base_steps w.second) ≤ 8
 
 pub record MacroRows (t : Task) (rows : List Join) : Type 0 where
-  pub each : All (RowFits t) rows
+  pub each : AllByRecursion (RowFits t) rows
   pub few : length rows ≤ 16
   pub room : t.actions + length rows ≤ 288
 
