@@ -2,7 +2,7 @@
 use layers::MacroLayer;
 use pad::Bench;
 use planning::{Fault, Join, Refusal};
-use service::order::Order;
+use service::{Answer, Call, Order};
 use std::process::Abort;
 use tariffs::{Amount, Bank, Cents};
 
@@ -185,4 +185,32 @@ fn too_long(rt: HostRuntime) {
     );
     assert_eq!(rt; order.plan().unwrap_or(&[]).len(), 256);
     assert_eq!(rt; order.quote().value(), 129400);
+}
+
+fn answered(answer: Answer<Cents>) -> (Option<Fault>, u64) {
+    match answer {
+        Answer::Done => (None, 0),
+        Answer::Credit(credit) => (None, credit.value()),
+        Answer::Refused(fault) => (Some(fault), 0),
+    }
+}
+
+// Calls in a row, with their answers and the quote afterwards. With no room for all answers nothing is done.
+#[test]
+fn calls_in_a_row(rt: HostRuntime) {
+    let calls = [Call::Load(&[0, 4, 1, 2, 3]), Call::Swap(9), Call::Trim];
+    let mut answers = [Answer::Done; 3];
+    let mut order = Order::open(pile(), Bank::new(&CENTS));
+    assert!(rt; order.carry_out(&calls, &mut answers[0..2]).is_err());
+    assert!(rt; order.plan().is_none());
+    match order.carry_out(&calls, &mut answers) {
+        Ok(quote) => assert_eq!(rt; quote.value(), 2900),
+        Err(fault) => assert!(rt; false, "{fault}"),
+    }
+    for (answer, want) in answers
+        .into_iter()
+        .zip([(None, 0), (no_step(9), 0), (None, 250)])
+    {
+        assert_eq!(rt; answered(answer), want);
+    }
 }

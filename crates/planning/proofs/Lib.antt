@@ -17,5 +17,6 @@ pub mod Charges
 pub mod Trims
 pub mod Edits
 pub mod Terms
+pub mod Logs
 pub mod Strikes
 pub mod Folds

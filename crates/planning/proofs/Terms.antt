@@ -10,9 +10,9 @@ use Rattle.planning.specs.Faults.{at_place}
 use Rattle.planning.specs.Verdicts.{Verdict, judged}
 use Rattle.planning.specs.Edits.{Edited, dropped, swapped, folded, unfolded}
 use Rattle.planning.specs.Trims.{left_out, trimmed}
-use Rattle.planning.specs.Orders.{Held, loaded, taken_or, taken, charge}
+use Rattle.planning.specs.Orders.{Held, loaded, taken_or, taken, charge, quoted}
 use Rattle.planning.specs.Piles.{Pile, meaning, written, Known, Good, Sound}
-use Rattle.planning.specs.Runs.{Call, load_row, drop_step, swap_steps, fold_steps, unfold_step, trim_plan, Answer, done, credit, refused, Log, said, is_accepted, is_trim, performed, Run, last_loaded, credits_since, trimmed_last, times, LoadExact, LoadsExact, TrimsAccepted, Kept, Term}
+use Rattle.planning.specs.Runs.{Call, load_row, drop_step, swap_steps, fold_steps, unfold_step, trim_plan, Answer, done, credit, refused, Log, said, is_accepted, is_trim, performed, Run, last_loaded, credits_since, trimmed_last, times, LoadExact, LoadsExact, TrimsAccepted, Kept, Term, QuotedTerm}
 use Rattle.planning.specs.declared.fault.Fault.{Fault}
 use Rattle.planning.specs.declared.refusal.Refusal.TheVariants.{NoPlan}
 use Rattle.planning.proofs.Plans.{reaches_known}
@@ -248,3 +248,17 @@ module _ {A : Type 0} (am : Amounts A) (price : ℕ → A) (p : Pile) (s : Sound
           let same : own.0 ≡ plan = cc own.1 in
           let mine = subst (Own log row) same own.2 in
           mine.least z i l ((s.faithful (left_out plan i) (known_without t plan i (reaches_known t t.initial plan mine.fine.1))).1 g)
+
+  pub quoted_term : (log : Log A) (held : Held) (quote : A) → Run am price t log held → quote ≡ quoted am price t held → QuotedTerm am price p log held quote
+  quoted_term log held quote r q = record {
+    term = run_term log held r;
+    unloaded_quote = λ e. q ∙ ap (quoted am price t) ((run_holds log held r).nothing e);
+    loaded_quote = λ row plan e h.
+        let own = (run_holds log held r).something row e in
+        let same : own.0 ≡ plan = cc (own.1, h) in
+        let mine = subst (Own log row) same own.2 in
+        let x = s.spelled plan (reaches_known t t.initial plan mine.fine.1) in
+        let y = s.spelled row mine.row_known in
+        let z : quote ≡ charge am price t plan = q ∙ ap (quoted am price t) h in
+        (z ∙ ap (total am price) (sym x), ap (total am price) y ∙ mine.charged ∙ ap (λ k. am.join k (credits_since am log)) (sym z));
+  }

@@ -1,5 +1,5 @@
 -- Runs of calls on an order, and the printed term: what holds after every list of calls.
-use Rattle.std.specs.Prelude.{◌≡◌, ℕ, ◌+◌, ◌<◌, ◌≤◌, Bool, true, false, cond, T, ◌↔◌, List, [], ◌∷◌, length, Some, None, Ok, Err, Option, ◌==◌}
+use Rattle.std.specs.Prelude.{◌≡◌, ℕ, ◌+◌, ◌<◌, ◌≤◌, Bool, true, false, cond, T, ◌↔◌, List, [], ◌∷◌, reverse, length, Some, None, Ok, Err, Option, Result, ◌==◌}
 use Rattle.planning.specs.Tasks.{Task}
 use Rattle.planning.specs.Amounts.{Amounts, total}
 use Rattle.planning.specs.Orders.{Held, Outcome, load_call, drop_call, swap_call, fold_call, unfold_call, trim_call}
@@ -26,6 +26,21 @@ abbrev pub Log : Type 0 → Type 0
 Log A = List (Call × Answer A)
 
 module _ {A : Type 0} where
+  -- each call beside its answer
+  abbrev pub answered : List Call → List (Answer A) → List (Call × Answer A)
+  answered [] answers = []
+  answered (c ∷ calls) [] = []
+  answered (c ∷ calls) (a ∷ answers) = (c, a) ∷ answered calls answers
+
+  -- the log of calls and of their answers, both in the order in which the calls were made
+  abbrev pub log_of : List Call → List (Answer A) → Log A
+  log_of calls answers = reverse (answered calls answers)
+
+  -- an accepted call's answer, or the fault
+  abbrev pub answer_by : {X : Type 0} → (X → Answer A) → Result X Fault → Answer A
+  answer_by answer (Ok x) = answer x
+  answer_by answer (Err f) = refused f
+
   abbrev pub said : {X : Type 0} → (X → Answer A) → Outcome X → Answer A × Held
   said answer (Ok x, held) = (answer x, held)
   said answer (Err f, held) = (refused f, held)
@@ -57,6 +72,11 @@ module _ {A : Type 0} (am : Amounts A) (price : ℕ → A) (t : Task) where
   abbrev pub Run : Log A → Held → Type 0
   Run [] held = held ≡ None
   Run (e ∷ earlier) held = (before : Held) × Run earlier before × (performed before e.0 ≡ (e.1, held))
+
+  -- the same on an order that held `first`
+  abbrev pub RunFrom : Held → Log A → Held → Type 0
+  RunFrom first [] held = held ≡ first
+  RunFrom first (e ∷ earlier) held = (before : Held) × RunFrom first earlier before × (performed before e.0 ≡ (e.1, held))
 
 module _ {A : Type 0} (am : Amounts A) where
   abbrev row_after : Call → Answer A → Option (List ℕ) → Option (List ℕ)
@@ -142,3 +162,11 @@ module _ {A : Type 0} (am : Amounts A) (price : ℕ → A) (p : Pile) where
     -- (c)
     pub trims_accepted : TrimsAccepted log
     pub nothing_to_strike : T (trimmed_last log) → (plan : List ℕ) → held ≡ Some plan → (i : ℕ) → i < length plan → Good p (left_out plan i) → ⊥
+
+  -- the term, and what a quote answers then
+  pub record QuotedTerm (log : Log A) (held : Held) (quote : A) : Type 0 where
+    pub term : Term log held
+    -- nought before the first accepted load
+    pub unloaded_quote : last_loaded am log ≡ None → quote ≡ am.nought
+    -- (b) from then on the quote of the plan held, which with all credits since is the quote of the plan last loaded
+    pub loaded_quote : (row plan : List ℕ) → last_loaded am log ≡ Some row → held ≡ Some plan → (quote ≡ quote_of plan) × (quote_of row ≡ am.join quote (credits_since am log))

@@ -1,3 +1,5 @@
 mod Editing
 mod Splicing
 mod Trimming
+mod Carrying
+mod Forms

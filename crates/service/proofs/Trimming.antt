@@ -4,10 +4,10 @@ use Rattle.planning.specs.Amounts.{Amounts}
 use Rattle.planning.specs.Orders.{Held, charge}
 use Rattle.planning.specs.Piles.{Pile, Built, meaning}
 use Rattle.planning.specs.Tasks.{Task}
-use Rattle.planning.specs.Trims.{left_out, strikable, trim_at, trim_by, trimmed, Trims}
+use Rattle.planning.specs.Trims.{left_out, strikable, trim_at, trim_by, trimmed, Spare, Trims}
 use Rattle.planning.proofs.Charges.{charge_cons}
 use Rattle.planning.proofs.Soundness.{built_sound}
-use Rattle.planning.proofs.Trims.{trim_means}
+use Rattle.planning.proofs.Trims.{trim_means, trim_idle}
 
 module _ {A : Type 0} (am : Amounts A) (price : ℕ → A) (t : Task) (plan : List ℕ) where
   -- n rounds more come to the plan trimmed
@@ -54,3 +54,11 @@ held_trims p b hold row short plan left e m is f h =
     let same : row ≡ plan = ap row_of (sym e ∙ f) in
     let rest : (trimmed (meaning p) row).plan ≡ left = sym is ∙ ap row_of h in
     subst (λ (x : List ℕ). Trims (meaning p) x left) same (subst (λ (x : List ℕ). Trims (meaning p) row x) rest (trim_means (meaning p) (built_sound p b).lawful row m))
+
+-- a trim of the plan held with nothing to leave out
+pub held_idle : (p : Pile) → Built p → (hold : Held) (row plan : List ℕ) → hold ≡ Some row → hold ≡ Some plan → Spare (meaning p) plan
+    → ((trimmed (meaning p) row).plan ≡ plan) × ((trimmed (meaning p) row).gone ≡ [])
+held_idle p b hold row plan e f spare =
+    let same : row ≡ plan = ap row_of (sym e ∙ f) in
+    let idle = trim_idle (meaning p) (built_sound p b).lawful (length row) row (subst (Spare (meaning p)) (sym same) spare) in
+    (idle.0 ∙ same, idle.1)

@@ -1,8 +1,18 @@
--- What a call on an order does.
-use Rattle.std.specs.Prelude.{◌≡◌, Option, Result}
+-- What calls on an order do.
+use Rattle.std.specs.Prelude.{◌≡◌, ℕ, ◌≤◌, List, map, Some, None, Option, Result}
 use Rattle.std.specs.Option.{option_map}
-use Rattle.planning.specs.Orders.{Held, Outcome}
+use Rattle.planning.specs.Amounts.{Amounts}
+use Rattle.planning.specs.Orders.{Held, Outcome, quoted}
+use Rattle.planning.specs.Piles.{Pile, macros, meaning}
+use Rattle.planning.specs.Runs as runs
+use Rattle.planning.specs.Runs.{load_row, drop_step, swap_steps, fold_steps, unfold_step, trim_plan, done, credit, refused, log_of, RunFrom, QuotedTerm}
+use Rattle.planning.specs.Tasks.{Solves}
 use Rattle.planning.specs.declared.fault.Fault.{Fault}
+use Rattle.planning.specs.declared.join.Join.{Join}
+use Rattle.service.specs.declared.answer.Answer.{Answer}
+use Rattle.service.specs.declared.answer.Answer.TheVariants.{Done, Credit, Refused}
+use Rattle.service.specs.declared.call.Call.{Call}
+use Rattle.service.specs.declared.call.Call.TheVariants.{Load, Drop, Swap, Fold, Unfold, Trim}
 use Rattle.service.specs.declared.plan.Plan.{Plan}
 use Rattle.service.specs.Steps.{steps_of}
 
@@ -14,3 +24,32 @@ held o = option_map steps_of o
 pub record Does {X : Type 0} (outcome : Outcome X) (r : Result X Fault) (after : Option Plan) : Type 0 where
   pub answers : r ≡ outcome.0
   pub leaves : held after ≡ outcome.1
+
+-- the top of the pile is a macro layer, the action is one of its macros, and the plan held solves the task
+abbrev pub TopMacro : Pile → Held → (List ℕ → ℕ) → Type 0
+TopMacro p hold action =
+    (below : Pile) × (n : ℕ) × (rows : List Join) × (plan : List ℕ)
+    × (p ≡ macros below n rows) × (hold ≡ Some plan) × Solves (meaning p) plan × ((meaning below).actions ≤ action plan)
+
+-- a call, with the row that it lends
+abbrev pub call_of : Call → runs.Call
+call_of (Load row) = load_row row.now
+call_of (Drop i) = drop_step i
+call_of (Swap i) = swap_steps i
+call_of (Fold i c) = fold_steps i c
+call_of (Unfold i) = unfold_step i
+call_of Trim = trim_plan
+
+-- an answer, as a log lists it
+abbrev pub answer_of : {A : Type 0} → Answer A → runs.Answer A
+answer_of Done = done
+answer_of (Credit c) = credit c
+answer_of (Refused f) = refused f
+
+-- a list of calls was carried out on an order over a pile: what was held at first, the answers, what is held now, and its quote
+pub record CarriedOut {A : Type 0} (am : Amounts A) (price : ℕ → A) (p : Pile) (first : Held) (calls : List Call) (answers : List (Answer A)) (now_held : Held) (quote : A) : Type 0 where
+  -- each call was answered, and left the plan, as defined
+  pub ran : RunFrom am price (meaning p) first (log_of (map call_of calls) (map answer_of answers)) now_held
+  pub quotes : quote ≡ quoted am price (meaning p) now_held
+  -- of an order that held no plan at first, the printed term
+  pub term : first ≡ None → QuotedTerm am price p (log_of (map call_of calls) (map answer_of answers)) now_held quote

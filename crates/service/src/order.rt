@@ -1,11 +1,13 @@
 ghost use Rattle.std.specs.Prelude.{◌≡◌, ℕ, ◌<◌, false, List, [], ◌∷◌, length, is_ok, Some, None, MatchOption};
 ghost use Rattle.planning.specs.Piles.{Built, meaning};
-ghost use Rattle.planning.specs.Edits.{tried};
+ghost use Rattle.planning.specs.Edits.{tried, OnlyForm};
+ghost use Rattle.planning.specs.Places.{action_at};
 ghost use Rattle.planning.specs.Orders.{load_call, drop_call, swap_call, fold_call, unfold_call, taken_or, charge, quoted};
 ghost use Rattle.planning.specs.Verdicts.{on_ok};
-ghost use Rattle.service.specs.Calls.{held, Does};
+ghost use Rattle.service.specs.Calls.{held, Does, TopMacro};
 ghost use Rattle.service.specs.Steps.{steps_of};
 
+pub mod carry_out;
 pub mod trim;
 
 use crate::plan::Plan;
@@ -111,8 +113,7 @@ impl<P: Task, F: Tariff> Order<P, F> {
         }
     }
 
-    // Puts action `c` in place of steps `i` and `i + 1`, which are its parts.
-    pub fn fold(&mut self, i: usize, c: u16) -> Result<(), Fault>
+    fn fold_parts(&mut self, i: usize, c: u16) -> Result<(), Fault>
         ensures pile { self.new.pile ≡ self.old.pile }
         ensures tariff { self.new.tariff ≡ self.old.tariff }
         ensures kept { is_ok result ≡ false → self.new ≡ self.old }
@@ -137,12 +138,24 @@ impl<P: Task, F: Tariff> Order<P, F> {
         }
     }
 
+    // Puts action `c` in place of steps `i` and `i + 1`, which are its parts.
+    pub fn fold(&mut self, i: usize, c: u16) -> Result<(), Fault>
+        ensures pile { self.new.pile ≡ self.old.pile }
+        ensures tariff { self.new.tariff ≡ self.old.tariff }
+        ensures kept { is_ok result ≡ false → self.new ≡ self.old }
+        ensures exact { Built (P.Task.pile self.old.pile) → Does (fold_call (meaning (P.Task.pile self.old.pile)) (held self.old.plan) i c) result self.new.plan }
+        ensures form { Built (P.Task.pile self.old.pile) → TopMacro (P.Task.pile self.old.pile) (held self.old.plan) (λ _. c) → OnlyForm result }
+    {
+        self.fold_parts(i, c)
+    }
+
     // Puts the two parts in place of step `i`.
     pub fn unfold(&mut self, i: usize) -> Result<(), Fault>
         ensures pile { self.new.pile ≡ self.old.pile }
         ensures tariff { self.new.tariff ≡ self.old.tariff }
         ensures kept { is_ok result ≡ false → self.new ≡ self.old }
         ensures exact { Built (P.Task.pile self.old.pile) → Does (unfold_call (meaning (P.Task.pile self.old.pile)) (held self.old.plan) i) result self.new.plan }
+        ensures form { Built (P.Task.pile self.old.pile) → TopMacro (P.Task.pile self.old.pile) (held self.old.plan) (λ plan. action_at plan i) → OnlyForm result }
     {
         let Some(plan) = self.plan else {
             return Err(Fault::at_place(Refusal::NoPlan, 0));

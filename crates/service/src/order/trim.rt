@@ -1,7 +1,7 @@
 ghost use Rattle.std.specs.Prelude.{◌≡◌, ℕ, ◌<◌, true, false, List, length, IfSome, is_ok, Some};
 ghost use Rattle.planning.specs.Orders.{trim_call, charge};
 ghost use Rattle.planning.specs.Piles.{Built, meaning};
-ghost use Rattle.planning.specs.Trims.{can_strike, strikable, trimmed, Trims};
+ghost use Rattle.planning.specs.Trims.{can_strike, strikable, trimmed, Spare, Trims};
 ghost use Rattle.service.specs.Calls.{held, Does};
 ghost use Rattle.service.specs.Steps.{steps_of};
 
@@ -57,6 +57,7 @@ impl<P: Task, F: Tariff> Order<P, F> {
         ensures kept { is_ok result ≡ false → self.new ≡ self.old }
         ensures exact { Built (P.Task.pile self.old.pile) → Does (trim_call F.Amount.Amount.amounts (F.Tariff.price self.old.tariff) (meaning (P.Task.pile self.old.pile)) (held self.old.plan)) result self.new.plan }
         ensures means { Built (P.Task.pile self.old.pile) → is_ok result ≡ true → (plan left : List ℕ) → held self.old.plan ≡ Some plan → held self.new.plan ≡ Some left → Trims (meaning (P.Task.pile self.old.pile)) plan left }
+        ensures idle { Built (P.Task.pile self.old.pile) → (plan : List ℕ) → held self.old.plan ≡ Some plan → Spare (meaning (P.Task.pile self.old.pile)) plan → (result ≡ Ok F.Amount.Amount.amounts.nought) × (held self.new.plan ≡ Some plan) }
     {
         let Some(plan) = self.plan else {
             return Err(Fault::at_place(Refusal::NoPlan, 0));
