@@ -5,7 +5,10 @@ use lib.Count.{ones}
 use Rattle.std.proofs.lemmas.Bool.{lt-ltb, le-ltb, eq-eqb, ne_eqb, cases_lt, cases_eq}
 use Rattle.std.proofs.lemmas.Nat.{one_shl}
 use Rattle.atoms.specs.declared.set.Atoms.{Atoms}
-use Rattle.planning.specs.Sets.{Under, count, lowest, greatest}
+use mathlib.Core.Path.{fun_ext}
+use Rattle.std.specs.Prelude.{Decides}
+use Rattle.planning.specs.Sets.{Under, count, lowest, greatest, same_below}
+use Rattle.planning.proofs.Same.{same_decides}
 use Rattle.planning.proofs.Counts.{count_same, count_add, lowest_some, greatest_some}
 use Rattle.atoms.specs.Digits.{bit}
 use Rattle.atoms.specs.Has.{has}
@@ -28,6 +31,13 @@ has_under a p t = ⊎_elim (λ h. h) (λ l. absurd (subst T (has_past a p l) t))
 
 pub has_at : (a : Atoms) (i k : ℕ) → i < 5 → k < 64 → has a (i * 64 + k) ≡ bit (word a i) k
 has_at a i k h l = has_in a (i * 64 + k) (omega arith) ∙ ap₂ (λ x y. bit (word a x) y) (omega arith) (omega arith)
+
+-- what `==` and `!=` of two sets go by says exactly whether they have the same atoms
+pub same_atoms_decide : (a b : Atoms) → Decides (same_below 320 (has a) (has b)) (has a ≡ has b)
+same_atoms_decide a b = (
+  λ e. fun_ext (λ p. ⊎_elim ((same_decides 320 (has a) (has b)).0 e p) (λ l. has_past a p l ∙ sym (has_past b p l)) (cases_lt p 320)),
+  λ e. (same_decides 320 (has a) (has b)).1 (λ k l. ap (λ f. f k) e),
+)
 
 -- five words, one by one
 abbrev pub made : (ℕ → ℕ) → Atoms

@@ -1,4 +1,4 @@
-// Each test goes through a table: a row that fails ends it, and is named by the message.
+// Most tests go through a table: a row that fails ends the test, and is named by the message.
 use layers::MacroLayer;
 use pad::Bench;
 use planning::{Fault, Join, Refusal};

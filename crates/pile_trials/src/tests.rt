@@ -14,6 +14,7 @@ mod wide;
 use atoms::Atoms;
 use layers::{MacroLayer, RuleLayer};
 use planning::{Fault, Join, Refusal, Rule, RuleSort};
+use std::fmt::Display;
 use std::process::Abort;
 use tasks::judge;
 use tasks::task::Task;
@@ -90,29 +91,40 @@ fn joined<T: Task + Drop>(rt: &impl Abort, below: T, rows: &[(u16, u16, u16)]) -
 }
 
 // The set has the atoms of the list, which names none twice, and no others.
-fn check_set(rt: &impl Abort, what: &str, set: Atoms, atoms: &[u16]) {
+fn check_set<D: Display>(rt: &impl Abort, what: &D, set: Atoms, atoms: &[u16]) {
     for p in atoms {
         assert!(rt; set.contains(*p), "{what}: atom {p}");
     }
     assert_eq!(rt; set.count() as usize, atoms.len(), "{what}");
 }
 
-fn check_plans<T: Task>(rt: &impl Abort, task: &T, rows: &[(&[u16], Result<(), Fault>)]) {
+fn check_plans<T: Task, D: Display>(
+    rt: &impl Abort,
+    what: &D,
+    task: &T,
+    rows: &[(&[u16], Result<(), Fault>)],
+) {
     for (plan, want) in rows {
-        assert_eq!(rt; judge(task, plan), *want, "plan {plan:?}");
+        assert_eq!(rt; judge(task, plan), *want, "{what}: plan {plan:?}");
     }
 }
 
 // An action: what it needs, deletes and adds.
-fn check_sets<T: Task>(
+fn check_sets<T: Task, D: Display>(
     rt: &impl Abort,
+    what: &D,
     task: &T,
     a: u16,
     needs: &[u16],
     deletes: &[u16],
     adds: &[u16],
 ) {
-    check_set(rt, "needs", task.needs(a), needs);
-    check_set(rt, "deletes", task.deletes(a), deletes);
-    check_set(rt, "adds", task.adds(a), adds);
+    check_set(rt, &format_args!("needs of {what}"), task.needs(a), needs);
+    check_set(
+        rt,
+        &format_args!("deletes of {what}"),
+        task.deletes(a),
+        deletes,
+    );
+    check_set(rt, &format_args!("adds of {what}"), task.adds(a), adds);
 }

@@ -25,7 +25,7 @@ pub record Does {X : Type 0} (outcome : Outcome X) (r : Result X Fault) (after :
   pub answers : r ≡ outcome.0
   pub leaves : held after ≡ outcome.1
 
--- the top of the pile is a macro layer, the action is one of its macros, and the plan held solves the task
+-- the top of the pile is a macro layer, the action is none of the task below it, and the plan held solves the task
 abbrev pub TopMacro : Pile → Held → (List ℕ → ℕ) → Type 0
 TopMacro p hold action =
     (below : Pile) × (n : ℕ) × (rows : List Join) × (plan : List ℕ)

@@ -8,6 +8,7 @@ mod sets;
 
 use atoms::Atoms;
 use planning::{Fault, Refusal};
+use std::fmt::Display;
 use std::process::Abort;
 
 // What a plan is to get that is refused over a bottom, where every atom first appears at height 0.
@@ -30,7 +31,7 @@ fn set_of(atoms: &[u16]) -> Atoms {
 }
 
 // The set has the atoms of the list, which names none twice, and no others.
-fn check_set(rt: &impl Abort, what: &str, set: Atoms, atoms: &[u16]) {
+fn check_set<D: Display>(rt: &impl Abort, what: &D, set: Atoms, atoms: &[u16]) {
     for p in atoms {
         assert!(rt; set.contains(*p), "{what}: atom {p}");
     }

@@ -17,11 +17,29 @@ fn check_listing(
     let before = ruled(rt, Bench, rule, listed);
     let mut after = ruled(rt, Bench, rule, listed);
     assert_eq!(rt; after.add(p), want, "{what}: {p} after {listed:?}");
-    assert_eq!(rt; after.atoms(), atoms, "atoms");
-    assert_eq!(rt; after.actions(), 6, "actions");
-    check_kept(rt, &before, &after);
+    assert_eq!(rt;
+        after.atoms(),
+        atoms,
+        "{what}: atoms with {p} after {listed:?}"
+    );
+    assert_eq!(rt;
+        after.actions(),
+        6,
+        "{what}: actions with {p} after {listed:?}"
+    );
+    check_kept(
+        rt,
+        &format_args!("{what}, {p} after {listed:?}, earlier answers"),
+        &before,
+        &after,
+    );
     if want.is_err() {
-        check_same(rt, &before, &after);
+        check_same(
+            rt,
+            &format_args!("{what}, {p} after {listed:?}, all answers"),
+            &before,
+            &after,
+        );
     }
 }
 
@@ -64,18 +82,32 @@ fn check_joining(
     let before = joined(rt, Bench, old);
     let mut after = joined(rt, Bench, old);
     assert_eq!(rt; after.add(join(a, b, kind)), want, "{a}, {b} after {old:?}");
-    assert_eq!(rt; after.actions(), actions, "actions");
-    assert_eq!(rt; after.atoms(), 5, "atoms");
-    check_kept(rt, &before, &after);
+    assert_eq!(rt;
+        after.actions(),
+        actions,
+        "actions with {a}, {b} after {old:?}"
+    );
+    assert_eq!(rt; after.atoms(), 5, "atoms with {a}, {b} after {old:?}");
+    check_kept(
+        rt,
+        &format_args!("{a}, {b} after {old:?}, earlier answers"),
+        &before,
+        &after,
+    );
     if want.is_err() {
-        check_same(rt, &before, &after);
+        check_same(
+            rt,
+            &format_args!("{a}, {b} after {old:?}, all answers"),
+            &before,
+            &after,
+        );
         return;
     }
     let last = actions.saturating_sub(1);
     assert_eq!(rt;
         (after.parts(last), after.kind(last)),
         (Some((a, b)), kind),
-        "the new action"
+        "{a}, {b} after {old:?}, the new action"
     );
 }
 

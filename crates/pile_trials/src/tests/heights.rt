@@ -2,6 +2,7 @@ use super::*;
 use crate::tests::same::check_same;
 use crate::tests::tall::Tall;
 use pad::Bench;
+use std::fmt::Display;
 use std::process::Abort;
 
 // A rule, a macro and a rule over the bench: mark 5 is of the first rule, and marks 6 and 7 are of the second.
@@ -43,6 +44,7 @@ fn layers_of_faults(rt: HostRuntime) {
     let task = tower(&rt);
     check_plans(
         &rt,
+        &"tower",
         &task,
         &[
             (&[], refused(Refusal::GoalNotMet, 1, 3, 1, 0)),
@@ -110,8 +112,8 @@ fn heights_to_the_limit(rt: HostRuntime) {
     }
 }
 
-fn check_raised<X: Task, Y: Task>(rt: &impl Abort, what: &str, x: &X, y: &Y, height: u8) {
-    check_same(rt, x, y);
+fn check_raised<X: Task, Y: Task, D: Display>(rt: &impl Abort, what: &D, x: &X, y: &Y, height: u8) {
+    check_same(rt, what, x, y);
     assert_eq!(rt; y.height(), height, "height of {what}");
 }
 
@@ -124,19 +126,25 @@ fn empty_layers(rt: HostRuntime) {
         ("predecessor", predecessor(4, 1, false)),
         ("strict predecessor", predecessor(4, 1, true)),
     ] {
-        check_raised(&rt, what, &Bench, &RuleLayer::new(Bench, rule), 1);
-        check_raised(&rt, what, &tower(&rt), &RuleLayer::new(tower(&rt), rule), 4);
+        check_raised(&rt, &what, &Bench, &RuleLayer::new(Bench, rule), 1);
+        check_raised(
+            &rt,
+            &format_args!("{what} over layers"),
+            &tower(&rt),
+            &RuleLayer::new(tower(&rt), rule),
+            4,
+        );
     }
-    check_raised(&rt, "macros", &Bench, &MacroLayer::new(Bench), 1);
+    check_raised(&rt, &"macros", &Bench, &MacroLayer::new(Bench), 1);
     check_raised(
         &rt,
-        "macros over layers",
+        &"macros over layers",
         &tower(&rt),
         &MacroLayer::new(tower(&rt)),
         4,
     );
     let empties = MacroLayer::new(RuleLayer::new(Bench, successor(2, 3, true)));
-    check_raised(&rt, "macros over a rule", &Bench, &empties, 2);
+    check_raised(&rt, &"macros over a rule", &Bench, &empties, 2);
     let marked = ruled(&rt, empties, successor(2, 3, true), &[2]);
     assert_eq!(rt;
         (marked.height(), marked.first_height(5)),

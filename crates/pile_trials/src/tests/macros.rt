@@ -22,7 +22,15 @@ fn joined_actions(rt: HostRuntime) {
     ];
     for (a, b, needs, deletes, adds) in rows {
         let layer = joined(&rt, Bench, &[(a, b, 77)]);
-        check_sets(&rt, &layer, 6, needs, deletes, adds);
+        check_sets(
+            &rt,
+            &format_args!("{a}, {b}"),
+            &layer,
+            6,
+            needs,
+            deletes,
+            adds,
+        );
         assert_eq!(rt; layer.kind(6), 77, "kind of {a}, {b}");
         assert_eq!(rt; layer.parts(6), Some((a, b)), "parts of {a}, {b}");
         let base = layer.base_steps(6);
@@ -35,6 +43,7 @@ fn plans(rt: HostRuntime) {
     let layer = joined(&rt, Bench, &[(1, 2, 6), (0, 3, 7)]);
     check_plans(
         &rt,
+        &"two macros",
         &layer,
         &[
             (&[], refused(Refusal::GoalNotMet, 1, 3, 1, 0)),

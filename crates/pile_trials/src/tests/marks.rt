@@ -12,6 +12,7 @@ fn check_mark(
     adding: &[u16],
 ) {
     let layer = ruled(rt, Bench, rule, &[p]);
+    let (first, second) = (rule.first, rule.second);
     for a in [0, 1, 2, 3, 4, 5, 6, 7, 287, 288, 65535] {
         let got = [
             layer.needs(a).contains(5),
@@ -23,7 +24,7 @@ fn check_mark(
             deleting.contains(&a),
             adding.contains(&a),
         ];
-        assert_eq!(rt; got, want, "atom {p}, action {a}");
+        assert_eq!(rt; got, want, "{first} for {second}, atom {p}, action {a}");
     }
 }
 
@@ -93,8 +94,13 @@ fn at_the_ends(rt: HostRuntime) {
     ];
     for (what, rule, initial, goal) in rows {
         let layer = ruled(&rt, Bench, rule, &[1, 3]);
-        check_set(&rt, what, layer.initial(), initial);
-        check_set(&rt, what, layer.goal(), goal);
+        check_set(
+            &rt,
+            &format_args!("{what}, at first"),
+            layer.initial(),
+            initial,
+        );
+        check_set(&rt, &format_args!("{what}, goal"), layer.goal(), goal);
     }
 }
 
@@ -112,6 +118,14 @@ fn in_order(rt: HostRuntime) {
         (6, &[], &[], &[]),
     ];
     for (a, needs, deletes, adds) in rows {
-        check_sets(&rt, &layer, a, needs, deletes, adds);
+        check_sets(
+            &rt,
+            &format_args!("action {a}"),
+            &layer,
+            a,
+            needs,
+            deletes,
+            adds,
+        );
     }
 }

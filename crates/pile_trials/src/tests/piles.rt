@@ -15,10 +15,19 @@ fn align_for_seal() -> Rule {
 fn macros_over_a_rule(rt: HostRuntime) {
     let rule = ruled(&rt, Bench, reset_first(), &[0]);
     let mut layer = joined(&rt, rule, &[(4, 1, 6), (1, 2, 7)]);
-    check_sets(&rt, &layer, 6, &[0], &[1, 2], &[0, 1, 5]);
-    check_sets(&rt, &layer, 7, &[0, 5], &[], &[1, 2]);
+    check_sets(
+        &rt,
+        &"reset, load-keys",
+        &layer,
+        6,
+        &[0],
+        &[1, 2],
+        &[0, 1, 5],
+    );
+    check_sets(&rt, &"load-keys, align", &layer, 7, &[0, 5], &[], &[1, 2]);
     check_plans(
         &rt,
+        &"macros over a rule",
         &layer,
         &[
             (&[0, 6, 2, 3], Ok(())),
@@ -38,9 +47,10 @@ fn macros_over_two_rules(rt: HostRuntime) {
     let first = ruled(&rt, Bench, reset_first(), &[0]);
     let second = ruled(&rt, first, align_for_seal(), &[2]);
     let layer = joined(&rt, second, &[(1, 2, 6)]);
-    check_sets(&rt, &layer, 6, &[0, 5], &[6], &[1, 2]);
+    check_sets(&rt, &"load-keys, align", &layer, 6, &[0, 5], &[6], &[1, 2]);
     check_plans(
         &rt,
+        &"macros over two rules",
         &layer,
         &[
             (&[0, 4, 6, 3], Ok(())),
@@ -97,6 +107,7 @@ fn two_rules_over_macros(rt: HostRuntime) {
     let layer = ruled(&rt, first, reset_first(), &[0]);
     check_plans(
         &rt,
+        &"two rules over macros",
         &layer,
         &[
             (&[0, 6, 3], Ok(())),
@@ -125,7 +136,15 @@ fn macros_of_macros(rt: HostRuntime) {
         (11, (6, 9), &[0, 1, 2, 3, 5], &[], &[0], &[1, 2, 3, 4]),
     ];
     for (a, parts, base, needs, deletes, adds) in rows {
-        check_sets(&rt, &layer, a, needs, deletes, adds);
+        check_sets(
+            &rt,
+            &format_args!("action {a}"),
+            &layer,
+            a,
+            needs,
+            deletes,
+            adds,
+        );
         assert_eq!(rt;
             (layer.parts(a), layer.kind(a)),
             (Some(parts), a),
@@ -136,6 +155,7 @@ fn macros_of_macros(rt: HostRuntime) {
     }
     check_plans(
         &rt,
+        &"macros of macros",
         &layer,
         &[
             (&[8], Ok(())),

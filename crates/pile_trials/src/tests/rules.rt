@@ -4,13 +4,25 @@ use pad::{Bench, judge_ruled};
 use std::process::Abort;
 
 fn check_bench(rt: &impl Abort, rule: Rule, listed: &[u16], rows: &[(&[u16], Result<(), Fault>)]) {
+    let (first, second, strict) = (rule.first, rule.second, rule.strict);
     let layer = ruled(rt, Bench, rule, listed);
-    check_plans(rt, &layer, rows);
+    check_plans(
+        rt,
+        &format_args!("kinds {first}, {second}, strict {strict}, atoms {listed:?}"),
+        &layer,
+        rows,
+    );
 }
 
 fn check_wide(rt: &impl Abort, rule: Rule, listed: &[u16], rows: &[(&[u16], Result<(), Fault>)]) {
+    let (first, second, strict) = (rule.first, rule.second, rule.strict);
     let layer = ruled(rt, Wide::new(2), rule, listed);
-    check_plans(rt, &layer, rows);
+    check_plans(
+        rt,
+        &format_args!("kinds {first}, {second}, strict {strict}, atoms {listed:?}"),
+        &layer,
+        rows,
+    );
 }
 
 // Only reset provides atom 0 for load-keys.

@@ -13,13 +13,23 @@ fn check_action(
     base: &[u16],
 ) {
     let action = Bench.action(a);
-    check_set(rt, "needs", action.needs, needs);
-    check_set(rt, "deletes", action.deletes, deletes);
-    check_set(rt, "adds", action.adds, adds);
+    check_set(rt, &format_args!("needs of {a}"), action.needs, needs);
+    check_set(rt, &format_args!("deletes of {a}"), action.deletes, deletes);
+    check_set(rt, &format_args!("adds of {a}"), action.adds, adds);
     assert_eq!(rt; [action.kind, Bench.kind(a)], [kind, kind], "kind of {a}");
-    check_set(rt, "needs alone", Bench.needs(a), needs);
-    check_set(rt, "deletes alone", Bench.deletes(a), deletes);
-    check_set(rt, "adds alone", Bench.adds(a), adds);
+    check_set(
+        rt,
+        &format_args!("needs of {a} alone"),
+        Bench.needs(a),
+        needs,
+    );
+    check_set(
+        rt,
+        &format_args!("deletes of {a} alone"),
+        Bench.deletes(a),
+        deletes,
+    );
+    check_set(rt, &format_args!("adds of {a} alone"), Bench.adds(a), adds);
     assert_eq!(rt; Bench.base_steps(a).as_slice(), base, "base steps of {a}");
     assert_eq!(rt; Bench.parts(a), None, "parts of {a}");
 }

@@ -41,7 +41,14 @@ fn plans_of_every_size(rt: HostRuntime) {
     }
 }
 
-fn check_all(rt: &impl Abort, what: &str, set: Atoms, n: u16, low: Option<u16>, high: Option<u16>) {
+fn check_all<D: Display>(
+    rt: &impl Abort,
+    what: &D,
+    set: Atoms,
+    n: u16,
+    low: Option<u16>,
+    high: Option<u16>,
+) {
     assert_eq!(rt;
         (set.count(), set.lowest(), set.greatest()),
         (n, low, high),
@@ -50,13 +57,42 @@ fn check_all(rt: &impl Abort, what: &str, set: Atoms, n: u16, low: Option<u16>, 
     assert!(rt; !set.contains(n), "{what}: atom {n}");
 }
 
-fn check_size(rt: &impl Abort, task: Full, n: u16, low: Option<u16>, high: Option<u16>) {
-    assert_eq!(rt; task.atoms(), n);
-    check_all(rt, "goal", task.goal(), n, low, high);
-    check_all(rt, "adds", task.adds(0), n, low, high);
-    check_all(rt, "needs", task.needs(1), n, low, high);
-    check_all(rt, "deletes", task.deletes(1), n, low, high);
-    assert!(rt; task.initial().is_empty(), "initial");
+fn check_size(rt: &impl Abort, given: u16, n: u16, low: Option<u16>, high: Option<u16>) {
+    let task = Full::new(given, 0);
+    assert_eq!(rt; task.atoms(), n, "{given} atoms");
+    check_all(
+        rt,
+        &format_args!("goal of {given}"),
+        task.goal(),
+        n,
+        low,
+        high,
+    );
+    check_all(
+        rt,
+        &format_args!("adds of {given}"),
+        task.adds(0),
+        n,
+        low,
+        high,
+    );
+    check_all(
+        rt,
+        &format_args!("needs of {given}"),
+        task.needs(1),
+        n,
+        low,
+        high,
+    );
+    check_all(
+        rt,
+        &format_args!("deletes of {given}"),
+        task.deletes(1),
+        n,
+        low,
+        high,
+    );
+    assert!(rt; task.initial().is_empty(), "initial of {given}");
     assert_eq!(rt;
         [
             task.needs(0).count(),
@@ -64,7 +100,7 @@ fn check_size(rt: &impl Abort, task: Full, n: u16, low: Option<u16>, high: Optio
             task.adds(1).count(),
         ],
         [0, 0, 0],
-        "{n} atoms"
+        "{given} atoms"
     );
 }
 
@@ -83,7 +119,7 @@ fn sets_of_every_size(rt: HostRuntime) {
         (65535, 320, Some(0), Some(319)),
     ];
     for (given, n, low, high) in rows {
-        check_size(&rt, Full::new(given, 0), n, low, high);
+        check_size(&rt, given, n, low, high);
     }
 }
 

@@ -66,7 +66,7 @@ fn check_step(rt: &impl Abort, place: usize, a: u16, want: Result<(), Fault>, af
     match step(&Bench, place, a, Atoms::empty()) {
         Ok(state) => {
             assert_eq!(rt; Ok(()), want, "place {place}, action {a}");
-            check_set(rt, "state", state, after);
+            check_set(rt, &format_args!("place {place}, action {a}"), state, after);
         }
         Err(fault) => {
             assert_eq!(rt; Err(fault), want, "place {place}, action {a}");
@@ -108,7 +108,12 @@ fn states_after_actions(rt: HostRuntime) {
             adds: set_of(adds),
             ..Action::unknown()
         };
-        check_set(&rt, "after", action.after(set_of(state)), after);
+        check_set(
+            &rt,
+            &format_args!("{state:?} without {deletes:?}, with {adds:?}"),
+            action.after(set_of(state)),
+            after,
+        );
     }
 }
 
@@ -116,7 +121,7 @@ fn check_wants(rt: &impl Abort, plan: &[u16], possible: bool, atoms: &[u16]) {
     match wants(&Bench, plan) {
         Some(set) => {
             assert!(rt; possible, "plan {plan:?}");
-            check_set(rt, "wanted", set, atoms);
+            check_set(rt, &format_args!("plan {plan:?}"), set, atoms);
         }
         None => {
             assert!(rt; !possible, "plan {plan:?}");

@@ -11,7 +11,7 @@ fn check_one(rt: &impl Abort, p: u16, there: Option<u16>, beside: &[u16]) {
         "lowest, greatest of {p}"
     );
     assert_eq!(rt; set.insert(p), set, "{p} twice");
-    check_set(rt, "beside 100", set.insert(100), beside);
+    check_set(rt, &format_args!("{p} beside 100"), set.insert(100), beside);
 }
 
 // An atom, what is there once it is put in, and the set that it gives with 100.
@@ -54,10 +54,21 @@ fn ends_and_counts(rt: HostRuntime) {
     }
 }
 
-fn check_pair(rt: &impl Abort, a: Atoms, b: Atoms, either: &[u16], both: &[u16], less: &[u16]) {
-    check_set(rt, "union", a.union(b), either);
-    check_set(rt, "intersection", a.intersection(b), both);
-    check_set(rt, "minus", a.minus(b), less);
+fn check_pair(rt: &impl Abort, x: &[u16], y: &[u16], either: &[u16], both: &[u16], less: &[u16]) {
+    let (a, b) = (set_of(x), set_of(y));
+    check_set(
+        rt,
+        &format_args!("union of {x:?} and {y:?}"),
+        a.union(b),
+        either,
+    );
+    check_set(
+        rt,
+        &format_args!("intersection of {x:?} and {y:?}"),
+        a.intersection(b),
+        both,
+    );
+    check_set(rt, &format_args!("{x:?} minus {y:?}"), a.minus(b), less);
 }
 
 // Two sets, then their union, their intersection and the first without the second.
@@ -82,7 +93,7 @@ fn made_of_two_sets(rt: HostRuntime) {
         (&[320], &[65535], &[], &[], &[]),
     ];
     for (a, b, either, both, less) in rows {
-        check_pair(&rt, set_of(a), set_of(b), either, both, less);
+        check_pair(&rt, a, b, either, both, less);
     }
 }
 
