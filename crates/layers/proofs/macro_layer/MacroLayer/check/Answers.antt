@@ -15,7 +15,8 @@ returns-in-Some g c = record {
       let p = g.T.Task.pile l.below in
       let f : c.args.row.first < (meaning p).actions = omega (arith, c.actions-m.ensures b) in
       let s : c.args.row.second < (meaning p).actions = omega (arith, c.actions-m.ensures b) in
-      row_clash (meaning p) (built_sound p b).lawful (joins l.table) c.args.row (has c.clash-atoms.result) f s c.if-row-ge-NO_KIND.false
+      let k : c.args.row.kind < 65535 = omega arith in
+      row_clash (meaning p) (built_sound p b).lawful (joins l.table) c.args.row (has c.clash-atoms.result) f s k
       (clash_is (meaning p) _ _ _ _ _ (c.action.ensures b) (c.action-2.ensures b) c.clash-atoms.ensures)
       c.in-Some.atom c.first_height.result c.in-Some.ensures (c.first_height.ensures b);
 }
@@ -28,7 +29,8 @@ returns g c = record {
       let p = g.T.Task.pile l.below in
       let f : c.args.row.first < (meaning p).actions = omega (arith, c.actions-m.ensures b) in
       let s : c.args.row.second < (meaning p).actions = omega (arith, c.actions-m.ensures b) in
+      let k : c.args.row.kind < 65535 = omega arith in
       c.check_room.ensures.exact b
-      ∙ row_free (meaning p) (built_sound p b).lawful (joins l.table) c.args.row (has c.clash-atoms.result) f s c.if-row-ge-NO_KIND.false
+      ∙ row_free (meaning p) (built_sound p b).lawful (joins l.table) c.args.row (has c.clash-atoms.result) f s k
       (clash_is (meaning p) _ _ _ _ _ (c.action.ensures b) (c.action-2.ensures b) c.clash-atoms.ensures) c.in_default.ensures;
 }
