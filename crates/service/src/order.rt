@@ -113,7 +113,7 @@ impl<P: Task, F: Tariff> Order<P, F> {
         }
     }
 
-    // The work of `fold`.
+    // What `fold` does; its clause `form` follows from `exact`, for all ways out at once.
     fn fold_parts(&mut self, i: usize, c: u16) -> Result<(), Fault>
         ensures pile { self.new.pile ≡ self.old.pile }
         ensures tariff { self.new.tariff ≡ self.old.tariff }
