@@ -20,3 +20,4 @@ pub mod Terms
 pub mod Logs
 pub mod Strikes
 pub mod Folds
+pub mod Props
