@@ -32,14 +32,14 @@ impl Fault {
 
 impl fmt::Display for Fault {
     fn fmt<W: fmt::Write>(&self, f: &mut fmt::Formatter<W>) -> fmt::Result {
-        let number = self.refusal.number();
-        let place = self.place;
-        let atom = self.atom;
-        let missing = self.missing;
-        let layer = self.layer;
         write!(
             f,
-            "refused {number} place {place} atom {atom} missing {missing} layer {layer}"
+            "refused {} place {} atom {} missing {} layer {}",
+            self.refusal.number(),
+            self.place,
+            self.atom,
+            self.missing,
+            self.layer
         )
     }
 }
