@@ -1,12 +1,13 @@
 -- What the words of a set say of its atoms.
-use Rattle.std.proofs.Common.{◌≡◌, ℕ, zero, suc, ◌+◌, ◌-◌, ◌*◌, ◌/◌, ◌%◌, ◌^◌, ◌<◌, ◌≤◌, Bool, true, false, ◌&&◌, ◌||◌, T, eqb, ◌⊎◌, [], ◌∷◌, length, get_or, set, Some, sym, refl, ap, ◌∙◌, subst, ap₂, inl, inr, ⊎_elim, arith, get_or-set_other, get_or-set_same}
+use Rattle.std.proofs.Common.{◌≡◌, ℕ, zero, suc, ◌+◌, ◌-◌, ◌*◌, ◌/◌, ◌%◌, ◌^◌, ◌<◌, ◌≤◌, Bool, true, false, ◌&&◌, ◌||◌, T, eqb, ◌⊎◌, [], ◌∷◌, length, get_or, set, Some, sym, refl, ap, ◌∙◌, subst, ap₂, inl, inr, ⊎_elim, arith, get_or-set_other, get_or-set_same, take, take_all, add-one}
 use lib.Bits.{bit_or}
 use lib.Count.{ones}
 use Rattle.std.proofs.lemmas.Bool.{lt-ltb, le-ltb, eq-eqb, ne_eqb, cases_lt, cases_eq}
 use Rattle.std.proofs.lemmas.Nat.{one_shl}
 use Rattle.atoms.specs.declared.set.Atoms.{Atoms}
 use mathlib.Core.Path.{fun_ext}
-use Rattle.std.specs.Prelude.{Decides}
+use Rattle.std.specs.Prelude.{Decides, sum_by}
+use Rattle.std.proofs.lemmas.List.Sums.{sum_by_more}
 use Rattle.planning.specs.Sets.{Under, count, lowest, greatest, same_below}
 use Rattle.planning.proofs.Same.{same_decides}
 use Rattle.planning.proofs.Counts.{count_same, count_add, lowest_some, greatest_some}
@@ -99,12 +100,24 @@ count_word a i h l =
     ap (count (has a)) (omega arith) ∙ count_add (has a) (i * 64) 64
     ∙ ap (λ n. count (has a) (i * 64) + n) (count_same _ _ 64 (λ k m. has_at a i k h m) ∙ sym (ones_count 64 (word a i) l))
 
+-- the atoms are the ones of all words
+pub count_words : (a : Atoms) → length a.words ≡ 5 → ((i : ℕ) → i < 5 → word a i < 2 ^ 64) → sum_by ones a.words ≡ count (has a) 320
+unfolding count
+count_words a long fits = ap (sum_by ones) (sym (take_all 5 a.words (omega arith))) ∙ up_to 5 (omega arith)
+  where
+    up_to : (n : ℕ) → n ≤ 5 → sum_by ones (take n a.words) ≡ count (has a) (n * 64)
+    up_to zero h = refl
+    up_to (suc n) h =
+        ap (λ m. sum_by ones (take m a.words)) (sym (add-one n)) ∙ sum_by_more ones a.words n 0 (omega arith)
+        ∙ ap (λ m. m + ones (word a n)) (up_to n (omega arith)) ∙ sym (count_word a n (omega arith) (fits n (omega arith)))
+        ∙ ap (λ m. count (has a) (m * 64)) (add-one n)
+
 -- a word says of each atom from i * 64 up
 pub word_part : (a : Atoms) (i p : ℕ) → i < 5 → i * 64 ≤ p → p < (i + 1) * 64 → has a p ≡ bit (word a i) (p - i * 64)
 word_part a i p h l m = ap (has a) (omega arith) ∙ has_at a i (p - i * 64) h (omega arith)
 
-pub no_word : (a : Atoms) (i : ℕ) → i < 5 → word a i ≡ 0 → (p : ℕ) → i * 64 ≤ p → p < (i + 1) * 64 → has a p ≡ false
-no_word a i h e p l m = word_part a i p h l m ∙ ap (λ w. bit w (p - i * 64)) e ∙ bit_none _
+pub no_word : (a : Atoms) (p : ℕ) → (p < 320 → word a (p / 64) ≡ 0) → has a p ≡ false
+no_word a p none = ⊎_elim (λ h. has_in a p h ∙ ap (λ w. bit w (p % 64)) (none h) ∙ bit_none _) (has_past a p) (cases_lt p 320)
 
 -- the lowest atom stands in the first word that is not 0
 pub lowest_at : (a : Atoms) (i t : ℕ) → i < 5 → Lowest 64 (word a i) t → ((p : ℕ) → p < i * 64 → has a p ≡ false)

@@ -6,7 +6,7 @@ ghost use Rattle.std.specs.Cmp.{partial_equiv_from_equiv, on_equiv};
 ghost use Rattle.std.specs.Ordering.{on};
 ghost use Rattle.planning.proofs.Same.{same_equivalence};
 
-#[derive(Clone, Copy, Debug)]
+#[derive(Clone, Copy, Debug, Default)]
 pub struct Atoms {
     // atom p is digit p % 64 of word p / 64
     words: [u64; 5],
@@ -32,7 +32,7 @@ impl Atoms {
         ensures tells { result ≡ has self p }
         ensures under { Under 320 (has self) }
     {
-        p < 320 && self.words[(p / 64) as usize] >> (p % 64) & 1 == 1
+        p < 320 && self.words[usize::from(p / 64)] >> (p % 64) & 1 == 1
     }
 
     pub fn insert(self, p: u16) -> Atoms
@@ -40,7 +40,7 @@ impl Atoms {
     {
         let mut words = self.words;
         if p < 320 {
-            words[(p / 64) as usize] |= 1 << (p % 64);
+            words[usize::from(p / 64)] |= 1 << (p % 64);
         }
         Atoms { words }
     }
@@ -93,35 +93,21 @@ impl Atoms {
     pub fn count(self) -> u16
         ensures { result ≡ count (has self) 320 }
     {
-        let mut n = 0;
-        for i in 0..5 {
-            n += self.words[i].count_ones() as u16;
-        }
-        n
+        self.words.iter().map(|w| w.count_ones() as u16).sum()
     }
 
     pub fn lowest(self) -> Option<u16>
         ensures { result ≡ lowest (has self) 320 }
     {
-        for i in 0..5u16 {
-            let w = self.words[i as usize];
-            if w != 0 {
-                return Some(i * 64 + w.trailing_zeros() as u16);
-            }
-        }
-        None
+        let i = self.words.iter().position(|w| *w != 0)?;
+        Some(i as u16 * 64 + self.words[i].trailing_zeros() as u16)
     }
 
     pub fn greatest(self) -> Option<u16>
         ensures { result ≡ greatest (has self) 320 }
     {
-        for i in (0..5u16).rev() {
-            let w = self.words[i as usize];
-            if w != 0 {
-                return Some(i * 64 + 63 - w.leading_zeros() as u16);
-            }
-        }
-        None
+        let i = self.words.iter().rposition(|w| *w != 0)?;
+        Some(i as u16 * 64 + 63 - self.words[i].leading_zeros() as u16)
     }
 
     pub fn is_empty(self) -> bool

@@ -10,7 +10,7 @@ pub returns-then-p-lt320 : goal.returns-then-p-lt320
 unfolding bit
 returns-then-p-lt320 c =
     record {
-      tells = ap (λ x. eqb x 1) (and_mask _ 1) ∙ sym (has_in c.args.self c.args.p c.if-p-lt320.true);
+      tells = rw c.from.ensures (ap (λ x. eqb x 1) (and_mask _ 1)) ∙ sym (has_in c.args.self c.args.p c.if-p-lt320.true);
       under = has_under c.args.self;
     }
 

@@ -1,26 +1,24 @@
 -- The ones of a word are its atoms.
-use Rattle.std.proofs.Common.{◌+◌, ◌*◌, ◌^◌, ◌<◌, sym, refl, ap, ◌∙◌, arith}
-use lib.Count.{ones, ones-le}
-use Rattle.planning.specs.Sets.{count}
+use Rattle.std.proofs.Common.{rules, ◌≡◌, ℕ, ◌^◌, ◌<◌, length, arith, ◌∙◌}
+use Rattle.std.specs.Prelude.{sum_by}
+use lib.Count.{ones}
 use Rattle.atoms.specs.Has.{has}
 use Rattle.planning.proofs.Counts.{count_le}
-use Rattle.atoms.proofs.Sets.{word, count_word}
+use Rattle.atoms.proofs.Sets.{word, count_words}
 use Rattle.atoms.proofs.set.Atoms.count.Goals as goal
 
-pub loop-i-init : goal.loop-i-init
-unfolding count
-loop-i-init c = refl
-
-pub overflow_add-n : goal.overflow_add-n
-overflow_add-n c =
+pub sum-requires-clause-fits : goal.sum-requires-clause-fits
+sum-requires-clause-fits c =
     let a = c.args.self in
-    let i = c.loop-i.i in
-    let fits : word a i < 2 ^ 64 = omega arith in
-    omega (arith, count_le (has a) (i * 64), ones-le 64 (word a i) fits)
+    let long : length a.words ≡ 5 = search rules in
+    let fits : (i : ℕ) → i < 5 → word a i < 2 ^ 64 = search rules in
+    let small : sum_by ones a.words < 2 ^ 16 = omega (arith, count_words a long fits, count_le (has a) 320) in
+    search (rules, small)
 
-pub loop-i-preserved : goal.loop-i-preserved
-loop-i-preserved c =
+pub returns : goal.returns
+returns c =
     let a = c.args.self in
-    let i = c.loop-i.i in
-    let fits : word a i < 2 ^ 64 = omega arith in
-    ap (λ n. n + ones (word a i)) c.loop-i.invariant ∙ sym (count_word a i (omega arith) fits)
+    let long : length a.words ≡ 5 = search rules in
+    let fits : (i : ℕ) → i < 5 → word a i < 2 ^ 64 = search rules in
+    let total : c.sum.result ≡ sum_by ones a.words = search rules in
+    total ∙ count_words a long fits

@@ -10,7 +10,7 @@ pub returns-then-p-lt320 : goal.returns-then-p-lt320
 returns-then-p-lt320 c =
     let n : length c.args.self.words ≡ 5 = search rules in
     let h = c.if-p-lt320.true in
-    fun_ext (λ q. rw (lt-ltb _ _ h) (has_inserted c.args.self c.args.p n h q))
+    fun_ext (λ q. rw (lt-ltb _ _ h, c.from.ensures) (has_inserted c.args.self c.args.p n h q))
 
 pub returns-else-p-lt320 : goal.returns-else-p-lt320
 returns-else-p-lt320 c = fun_ext (λ q. rw (le-ltb _ _ c.if-p-lt320.false) (or_same (has c.args.self q) _ refl))

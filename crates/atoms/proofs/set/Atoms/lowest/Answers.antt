@@ -1,24 +1,24 @@
 -- The first word that is not 0 has the lowest atom.
-use Rattle.std.proofs.Common.{◌*◌, ◌^◌, ◌<◌, sym, ⊎_elim, arith}
-use Rattle.std.proofs.lemmas.Bool.{cases_lt}
-use Rattle.atoms.specs.Has.{has}
+use Rattle.std.proofs.Common.{rules, ◌≡◌, ◌≢◌, ℕ, ◌+◌, ◌*◌, ◌/◌, ◌^◌, ◌<◌, Some, sym, ◌∙◌, arith}
+use lib.Count.{count_trailing_zeros}
+use Rattle.planning.specs.Sets.{lowest}
 use Rattle.planning.proofs.Counts.{lowest_none}
+use Rattle.atoms.specs.declared.set.Atoms.{Atoms}
+use Rattle.atoms.specs.Has.{has}
 use Rattle.atoms.proofs.Digits.{trailing_lowest}
 use Rattle.atoms.proofs.Sets.{word, no_word, lowest_at}
 use Rattle.atoms.proofs.set.Atoms.lowest.Goals as goal
 
-pub returns-then-w-ne0 : goal.returns-then-w-ne0
-returns-then-w-ne0 c =
-    let a = c.args.self in
-    let i = c.loop-i.i in
-    let some : 0 < word a i = omega (arith, c.if-w-ne0.true) in
-    let fits : word a i < 2 ^ 64 = omega arith in
-    sym (lowest_at a i _ (omega arith) (trailing_lowest 64 (word a i) some fits) c.loop-i.invariant)
+first_word : (a : Atoms) (i : ℕ) → i < 5 → word a i ≢ 0 → word a i < 2 ^ 64 → ((k : ℕ) → k < i → word a k ≡ 0)
+    → Some (i * 64 + count_trailing_zeros 64 (word a i)) ≡ lowest (has a) 320
+first_word a i within here fits before =
+    sym (lowest_at a i _ within (trailing_lowest 64 (word a i) (omega (arith, here)) fits) (λ p h. no_word a p (λ _. before (p / 64) (omega arith))))
 
-pub loop-i-preserved : goal.loop-i-preserved
-loop-i-preserved c p h =
-    ⊎_elim (c.loop-i.invariant p) (λ l. no_word c.args.self c.loop-i.i (omega arith) c.if-w-ne0.false p l h)
-    (cases_lt p (c.loop-i.i * 64))
+pub returns-in_err-i : goal.returns-in_err-i
+returns-in_err-i c =
+    let a = c.args.self in
+    let none : (k : ℕ) → k < 5 → word a k ≡ 0 = search rules in
+    c.from_residual.ensures ∙ sym (lowest_none (has a) 320 (λ p _. no_word a p (λ h. none (p / 64) (omega arith))))
 
 pub returns : goal.returns
-returns c = sym (lowest_none (has c.args.self) 320 (λ k l. c.loop-i.invariant k (omega arith)))
+returns c = first_word c.args.self c.in_ok-i.i (search rules) (search rules) (search rules) (search rules)
