@@ -56,14 +56,17 @@ pub has_made : (f : ℕ → ℕ) (p : ℕ) → p < 320 → has (made f) p ≡ bi
 has_made f p h = has_in (made f) p h ∙ ap (λ w. bit w (p % 64)) (word_made f (p / 64) (omega arith))
 
 -- an operation word by word is one atom by atom
-pub pointwise : (op : ℕ → ℕ → ℕ) (on : Bool → Bool → Bool) (a b : Atoms) → on false false ≡ false
+pub pointwise : (op : ℕ → ℕ → ℕ) (on : Bool → Bool → Bool) (a b r : Atoms) → on false false ≡ false
+    → ((i : ℕ) → i < 5 → word r i ≡ op (word a i) (word b i))
     → ((i k : ℕ) → i < 5 → k < 64 → bit (op (word a i) (word b i)) k ≡ on (bit (word a i) k) (bit (word b i) k))
-    → (p : ℕ) → has (made (λ i. op (word a i) (word b i))) p ≡ on (has a p) (has b p)
-pointwise op on a b z each p = go (cases_lt p 320)
+    → has r ≡ (λ p. on (has a p) (has b p))
+pointwise op on a b r z words each = fun_ext (λ p. go p (cases_lt p 320))
   where
-    go : (p < 320) ⊎ (320 ≤ p) → has (made (λ i. op (word a i) (word b i))) p ≡ on (has a p) (has b p)
-    go (inl h) = has_made (λ i. op (word a i) (word b i)) p h ∙ each (p / 64) (p % 64) (omega arith) (omega arith) ∙ sym (ap₂ on (has_in a p h) (has_in b p h))
-    go (inr h) = has_past (made (λ i. op (word a i) (word b i))) p h ∙ sym z ∙ sym (ap₂ on (has_past a p h) (has_past b p h))
+    go : (p : ℕ) → (p < 320) ⊎ (320 ≤ p) → has r p ≡ on (has a p) (has b p)
+    go p (inl h) =
+        has_in r p h ∙ ap (λ w. bit w (p % 64)) (words (p / 64) (omega arith)) ∙ each (p / 64) (p % 64) (omega arith) (omega arith)
+        ∙ sym (ap₂ on (has_in a p h) (has_in b p h))
+    go p (inr h) = has_past r p h ∙ sym z ∙ sym (ap₂ on (has_past a p h) (has_past b p h))
 
 pub or_same : (x y : Bool) → y ≡ false → x ≡ (x || y)
 or_same true y e = refl

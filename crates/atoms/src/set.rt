@@ -1,10 +1,12 @@
 // A set of atoms, by value. A number past 319 is in no set, and inserting it changes nothing.
-ghost use Rattle.std.specs.Prelude.{◌≡◌, Decides, nat_lt};
+ghost use Rattle.std.specs.Prelude.{◌≡◌, ℕ, ◌<◌, Decides, nat_lt, slice_index};
 ghost use Rattle.planning.specs.Sets.{none, ◌∪◌, ◌∩◌, ◌∖◌, ◌⊆◌, Under, count, lowest, greatest, same_below};
 ghost use Rattle.atoms.specs.Has.{has, only_atom};
 ghost use Rattle.std.specs.Cmp.{partial_equiv_from_equiv, on_equiv};
 ghost use Rattle.std.specs.Ordering.{on};
 ghost use Rattle.planning.proofs.Same.{same_equivalence};
+
+use std::array;
 
 #[derive(Clone, Copy, Debug, Default)]
 pub struct Atoms {
@@ -45,49 +47,32 @@ impl Atoms {
         Atoms { words }
     }
 
+    // The set each of whose words is `op` of the two words in its place.
+    fn by_word<F: Fn(u64, u64) -> u64>(self, other: Atoms, op: F) -> Atoms
+        requires { F.IsAlwaysCallable op }
+        ensures { (i : ℕ) → i < 5 → F.post op (slice_index self.words i) (slice_index other.words i) (slice_index result.words i) }
+    {
+        Atoms {
+            words: array::from_fn(|i| op(self.words[i], other.words[i])),
+        }
+    }
+
     pub fn union(self, other: Atoms) -> Atoms
         ensures { has result ≡ has self ∪ has other }
     {
-        let (a, b) = (self.words, other.words);
-        Atoms {
-            words: [
-                a[0] | b[0],
-                a[1] | b[1],
-                a[2] | b[2],
-                a[3] | b[3],
-                a[4] | b[4],
-            ],
-        }
+        self.by_word(other, |a, b| a | b)
     }
 
     pub fn intersection(self, other: Atoms) -> Atoms
         ensures { has result ≡ has self ∩ has other }
     {
-        let (a, b) = (self.words, other.words);
-        Atoms {
-            words: [
-                a[0] & b[0],
-                a[1] & b[1],
-                a[2] & b[2],
-                a[3] & b[3],
-                a[4] & b[4],
-            ],
-        }
+        self.by_word(other, |a, b| a & b)
     }
 
     pub fn minus(self, other: Atoms) -> Atoms
         ensures { has result ≡ has self ∖ has other }
     {
-        let (a, b) = (self.words, other.words);
-        Atoms {
-            words: [
-                a[0] & !b[0],
-                a[1] & !b[1],
-                a[2] & !b[2],
-                a[3] & !b[3],
-                a[4] & !b[4],
-            ],
-        }
+        self.by_word(other, |a, b| a & !b)
     }
 
     pub fn count(self) -> u16
