@@ -108,7 +108,7 @@ impl Atoms {
     }
 }
 
-// Two sets are equal if they have the same atoms.
+// Two sets are equal if they have the same atoms. By hand, since a derived `eq` would not promise `decided`.
 impl PartialEq for Atoms {
     ghost eq = { on has (same_below 320) };
 
