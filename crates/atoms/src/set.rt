@@ -122,6 +122,7 @@ impl PartialEq for Atoms {
     }
 }
 
+// By hand, since the proof of a derived one doesn't close.
 impl Eq for Atoms {
     ghost laws = { on_equiv has (same_equivalence 320) };
 }
