@@ -6,9 +6,7 @@ use std::io;
 // 254 times power-on, then load-keys, align and seal.
 fn long_row() -> [u16; 257] {
     let mut row = [0; 257];
-    row[254] = 1;
-    row[255] = 2;
-    row[256] = 3;
+    row[254..].copy_from_slice(&[1, 2, 3]);
     row
 }
 

@@ -24,10 +24,8 @@ const ALIGN_FOR_SEAL: Rule = Rule {
 };
 
 const ALIGN_FOR_SEAL_STRICT: Rule = Rule {
-    sort: RuleSort::Successor,
-    first: 2,
-    second: 3,
     strict: true,
+    ..ALIGN_FOR_SEAL
 };
 
 // Load-keys and then align.

@@ -1,89 +1,91 @@
-ghost use Rattle.std.specs.Prelude.{◌≡◌, ℕ, ◌<◌, ◌≤◌, length, ◌≢◌, slice_index};
-
 use atoms::Atoms;
 use pad::Bench;
 use pad::bench::{ACTIONS, ATOMS};
 use planning::Fault;
-use std::io;
+use std::{fmt, io};
 use tasks::task::Task;
 use tasks::{step, wants};
 
-// Where the steps end that are all the same from `i` on.
-fn run_end(plan: &[u16], i: usize) -> usize
-    ensures within { i < length plan.now → (i < result) × (result ≤ length plan.now) }
-    ensures same { (k : ℕ) → i ≤ k → k < result → slice_index plan.now k ≡ slice_index plan.now i }
-    ensures other { result < length plan.now → slice_index plan.now result ≢ slice_index plan.now i }
-{
-    for k in i..plan.len() {
-        if plan[k] != plan[i] {
-            return k;
+// What the bench calls an action or an atom; a macro, an unknown action and a mark have a number alone.
+#[derive(Clone, Copy)]
+enum Name {
+    Action(u16),
+    Atom(u16),
+}
+
+impl fmt::Display for Name {
+    fn fmt<W: fmt::Write>(&self, f: &mut fmt::Formatter<W>) -> fmt::Result {
+        match *self {
+            Name::Action(a) if a < ACTIONS => f.write_str(Bench::action_name(a)),
+            Name::Action(a) => write!(f, "action-{a}"),
+            Name::Atom(p) if p < ATOMS => f.write_str(Bench::atom_name(p)),
+            Name::Atom(p) => write!(f, "mark-{p}"),
         }
     }
-    plan.len()
 }
 
-// An action's name; a macro's and an unknown action's number.
-fn show_action(rt: &HostRuntime, a: u16) -> io::Result<()> {
-    if a < ACTIONS {
-        let name = Bench::action_name(a);
-        print!(rt; " {name}")
-    } else {
-        print!(rt; " action-{a}")
-    }
-}
+// The actions of a plan; of equal steps in a row one, and how many they are.
+#[derive(Clone, Copy)]
+struct Steps<'a>(&'a [u16]);
 
-// An atom's name; a mark's number.
-fn show_atom(rt: &HostRuntime, p: u16) -> io::Result<()> {
-    if p < ATOMS {
-        let name = Bench::atom_name(p);
-        print!(rt; " {name}")
-    } else {
-        print!(rt; " mark-{p}")
-    }
-}
-
-fn show_names(rt: &HostRuntime, plan: &[u16]) -> io::Result<()> {
-    let mut i = 0;
-    while i < plan.len() {
-        let end = run_end(plan, i);
-        let times = end - i;
-        if times > 1 {
-            print!(rt; " {times} x")?;
+impl fmt::Display for Steps<'_> {
+    fn fmt<W: fmt::Write>(&self, f: &mut fmt::Formatter<W>) -> fmt::Result {
+        for run in self.0.chunk_by(|a, b| a == b) {
+            let times = run.len();
+            if times > 1 {
+                write!(f, " {times} x")?;
+            }
+            write!(f, " {}", Name::Action(run[0]))?;
         }
-        show_action(rt, plan[i])?;
-        i = end;
+        Ok(())
     }
-    println!(rt; "")
 }
 
-fn show_atoms(rt: &HostRuntime, count: u16, atoms: Atoms) -> io::Result<()> {
-    if atoms.is_empty() {
-        print!(rt; " nothing")?;
+// The atoms of a set, as far as they are below a number.
+#[derive(Clone, Copy)]
+struct Below(Atoms, u16);
+
+impl fmt::Display for Below {
+    fn fmt<W: fmt::Write>(&self, f: &mut fmt::Formatter<W>) -> fmt::Result {
+        let Below(atoms, count) = *self;
+        if atoms.is_empty() {
+            return f.write_str(" nothing");
+        }
+        for p in (0..count).filter(|p| atoms.contains(*p)) {
+            write!(f, " {}", Name::Atom(p))?;
+        }
+        Ok(())
     }
-    for p in 0..count {
-        if atoms.contains(p) {
-            show_atom(rt, p)?;
+}
+
+// What a plan or a row gets.
+#[derive(Clone, Copy)]
+struct Answer(Result<(), Fault>);
+
+impl fmt::Display for Answer {
+    fn fmt<W: fmt::Write>(&self, f: &mut fmt::Formatter<W>) -> fmt::Result {
+        match self.0 {
+            Ok(()) => f.write_str("accepted"),
+            Err(fault) => write!(f, "{fault}"),
         }
     }
-    println!(rt; "")
 }
 
 // The state after each step, as far as the steps can be taken.
 fn show_states<P: Task>(rt: &HostRuntime, task: &P, plan: &[u16]) -> io::Result<()> {
+    let count = task.atoms();
     let mut state = task.initial();
-    print!(rt; "  start:")?;
-    show_atoms(rt, task.atoms(), state)?;
-    for i in 0..plan.len() {
+    println!(rt; "  start:{}", Below(state, count))?;
+    let mut before = None;
+    for (i, &a) in plan.iter().enumerate() {
         let place = i + 1;
-        let Ok(next) = step(task, place, plan[i], state) else {
+        let Ok(next) = step(task, place, a, state) else {
             return Ok(());
         };
-        if i == 0 || plan[i] != plan[i - 1] || next != state {
-            print!(rt; "  {place}")?;
-            show_action(rt, plan[i])?;
-            print!(rt; ":")?;
-            show_atoms(rt, task.atoms(), next)?;
+        if before != Some(a) || next != state {
+            println!(rt; "  {place} {}:{}", Name::Action(a), Below(next, count))?;
         }
+        before = Some(a);
         state = next;
     }
     Ok(())
@@ -92,30 +94,18 @@ fn show_states<P: Task>(rt: &HostRuntime, task: &P, plan: &[u16]) -> io::Result<
 // What the plan wants of the state that it starts in.
 fn show_wants<P: Task>(rt: &HostRuntime, task: &P, plan: &[u16]) -> io::Result<()> {
     match wants(task, plan) {
-        Some(want) => {
-            print!(rt; "  wants:")?;
-            show_atoms(rt, task.atoms(), want)
-        }
+        Some(atoms) => println!(rt; "  wants:{}", Below(atoms, task.atoms())),
         None => println!(rt; "  reaches the goal from no state"),
     }
 }
 
 pub fn show_title(rt: &HostRuntime, title: &str) -> io::Result<()> {
-    println!(rt; "")?;
-    println!(rt; "{title}")
-}
-
-fn show_answer(rt: &HostRuntime, answer: Result<(), Fault>) -> io::Result<()> {
-    match answer {
-        Ok(()) => println!(rt; " accepted"),
-        Err(fault) => println!(rt; " {fault}"),
-    }
+    println!(rt; "\n{title}")
 }
 
 // What came of a row added to a layer.
 pub fn show_row(rt: &HostRuntime, answer: Result<(), Fault>) -> io::Result<()> {
-    print!(rt; "  row:")?;
-    show_answer(rt, answer)
+    println!(rt; "  row: {}", Answer(answer))
 }
 
 pub fn show_plan<P: Task>(
@@ -124,10 +114,8 @@ pub fn show_plan<P: Task>(
     plan: &[u16],
     verdict: Result<(), Fault>,
 ) -> io::Result<()> {
-    print!(rt; "  plan:")?;
-    show_names(rt, plan)?;
+    println!(rt; "  plan:{}", Steps(plan))?;
     show_wants(rt, task, plan)?;
     show_states(rt, task, plan)?;
-    print!(rt; "  verdict:")?;
-    show_answer(rt, verdict)
+    println!(rt; "  verdict: {}", Answer(verdict))
 }
