@@ -8,17 +8,13 @@ use tariffs::{Amount, Bank, Cents};
 
 const CENTS: [u32; 6] = [500, 900, 1200, 300, 250, 0];
 
-#[derive(Clone, Copy, Debug)]
-enum Edit {
-    Drop(usize),
-    Swap(usize),
-    Fold(usize, u16),
-    Unfold(usize),
-    Trim,
-}
+// What a call answers: the cents that it credits, which are nought if it credits none.
+type Credit = Result<u64, Fault>;
 
-fn fault(refusal: Refusal, place: usize, atom: u16, missing: u16) -> Option<Fault> {
-    Some(Fault {
+// What a call is to answer that is refused over a bottom, where every atom first appears at height 0. Like `refused` in the tests
+// of trials, which another crate can't use.
+fn refused(refusal: Refusal, place: usize, atom: u16, missing: u16) -> Credit {
+    Err(Fault {
         refusal,
         place,
         atom,
@@ -27,8 +23,8 @@ fn fault(refusal: Refusal, place: usize, atom: u16, missing: u16) -> Option<Faul
     })
 }
 
-fn no_step(place: usize) -> Option<Fault> {
-    fault(Refusal::NoStep, place, 0, 0)
+fn no_step(place: usize) -> Credit {
+    refused(Refusal::NoStep, place, 0, 0)
 }
 
 // The bench with load-keys and align joined as action 6.
@@ -42,116 +38,103 @@ fn pile() -> MacroLayer<Bench> {
     pile
 }
 
-fn credited(answer: Result<Cents, Fault>) -> (Option<Fault>, u64) {
-    match answer {
-        Ok(credit) => (None, credit.value()),
-        Err(fault) => (Some(fault), 0),
+// What the order's own method answers to a call.
+fn called(order: &mut Order<MacroLayer<Bench>, Bank<'_>>, call: Call<'_>) -> Credit {
+    match call {
+        Call::Drop(i) => return order.drop(i).map(|credit| credit.value()),
+        Call::Trim => return order.trim().map(|credit| credit.value()),
+        Call::Load(row) => order.load(row)?,
+        Call::Swap(i) => order.swap(i)?,
+        Call::Fold(i, c) => order.fold(i, c)?,
+        Call::Unfold(i) => order.unfold(i)?,
     }
-}
-
-// The fault of an edit, if it has one, and what it credits.
-fn edited(order: &mut Order<MacroLayer<Bench>, Bank<'_>>, edit: Edit) -> (Option<Fault>, u64) {
-    let done = match edit {
-        Edit::Drop(i) => return credited(order.drop(i)),
-        Edit::Trim => return credited(order.trim()),
-        Edit::Swap(i) => order.swap(i),
-        Edit::Fold(i, c) => order.fold(i, c),
-        Edit::Unfold(i) => order.unfold(i),
-    };
-    match done {
-        Ok(()) => (None, 0),
-        Err(fault) => (Some(fault), 0),
-    }
+    Ok(0)
 }
 
 // With no plan every edit is refused by 16, and the quote is nought.
 #[test]
 fn no_plan(rt: HostRuntime) {
-    let edits = [
-        Edit::Drop(1),
-        Edit::Swap(0),
-        Edit::Fold(1, 6),
-        Edit::Unfold(9),
-        Edit::Trim,
+    let calls = [
+        Call::Drop(1),
+        Call::Swap(0),
+        Call::Fold(1, 6),
+        Call::Unfold(9),
+        Call::Trim,
     ];
-    for edit in edits {
+    for call in calls {
         let mut order = Order::open(pile(), Bank::new(&CENTS));
         assert_eq!(rt;
-            edited(&mut order, edit).0,
-            fault(Refusal::NoPlan, 0, 0, 0),
-            "{edit:?}"
+            called(&mut order, call),
+            refused(Refusal::NoPlan, 0, 0, 0),
+            "{call:?}"
         );
         assert!(rt; order.plan().is_none());
         assert_eq!(rt; order.quote().value(), 0);
     }
 }
 
-// A plan, an edit of it, the fault or the credit, and the plan afterwards.
-type Row<'a> = (&'a [u16], Edit, Option<Fault>, u64, &'a [u16]);
+// A plan, a call that edits it, the answer, and the plan afterwards.
+type Row<'a> = (&'a [u16], Call<'a>, Credit, &'a [u16]);
 
 const SERVICE: &[u16] = &[0, 1, 2, 3];
 
 // What is left is worth the bench's 2,900 cents.
 fn check_rows(rt: &impl Abort, rows: &[Row<'_>]) {
-    for (plan, edit, refused, credit, after) in rows {
+    for (plan, call, answer, after) in rows {
         let mut order = Order::open(pile(), Bank::new(&CENTS));
         assert_eq!(rt; order.load(plan), Ok(()), "{plan:?}");
-        assert_eq!(rt;
-            edited(&mut order, *edit),
-            (*refused, *credit),
-            "{plan:?} {edit:?}"
-        );
-        assert_eq!(rt; order.plan().unwrap_or(&[]), *after, "{plan:?} {edit:?}");
-        assert_eq!(rt; order.close().value(), 2900, "{plan:?} {edit:?}");
+        assert_eq!(rt; called(&mut order, *call), *answer, "{plan:?} {call:?}");
+        assert_eq!(rt; order.plan(), Some(*after), "{plan:?} {call:?}");
+        assert_eq!(rt; order.close().value(), 2900, "{plan:?} {call:?}");
     }
 }
 
 #[test]
 fn drops(rt: HostRuntime) {
-    let early = fault(Refusal::NotApplicable, 1, 0, 1);
-    let unsealed = fault(Refusal::GoalNotMet, 4, 3, 1);
+    let early = refused(Refusal::NotApplicable, 1, 0, 1);
+    let unsealed = refused(Refusal::GoalNotMet, 4, 3, 1);
     check_rows(
         &rt,
         &[
-            (&[0, 4, 1, 2, 3], Edit::Drop(2), None, 250, SERVICE),
-            (SERVICE, Edit::Drop(1), early, 0, SERVICE),
-            (SERVICE, Edit::Drop(4), unsealed, 0, SERVICE),
-            (SERVICE, Edit::Drop(0), no_step(0), 0, SERVICE),
-            (SERVICE, Edit::Drop(5), no_step(5), 0, SERVICE),
+            (&[0, 4, 1, 2, 3], Call::Drop(2), Ok(250), SERVICE),
+            (SERVICE, Call::Drop(1), early, SERVICE),
+            (SERVICE, Call::Drop(4), unsealed, SERVICE),
+            (SERVICE, Call::Drop(0), no_step(0), SERVICE),
+            (SERVICE, Call::Drop(5), no_step(5), SERVICE),
         ],
     );
 }
 
 #[test]
 fn swaps(rt: HostRuntime) {
-    let early = fault(Refusal::NotApplicable, 1, 0, 1);
+    let early = refused(Refusal::NotApplicable, 1, 0, 1);
     check_rows(
         &rt,
         &[
-            (SERVICE, Edit::Swap(2), None, 0, &[0, 2, 1, 3]),
-            (SERVICE, Edit::Swap(1), early, 0, SERVICE),
-            (SERVICE, Edit::Swap(0), no_step(0), 0, SERVICE),
-            (SERVICE, Edit::Swap(4), no_step(4), 0, SERVICE),
+            (SERVICE, Call::Swap(2), Ok(0), &[0, 2, 1, 3]),
+            (SERVICE, Call::Swap(1), early, SERVICE),
+            (SERVICE, Call::Swap(0), no_step(0), SERVICE),
+            (SERVICE, Call::Swap(4), no_step(4), SERVICE),
         ],
     );
 }
 
 #[test]
 fn folds(rt: HostRuntime) {
-    let unknown = fault(Refusal::UnknownAction, 2, 0, 0);
-    let others = fault(Refusal::NotTheParts, 1, 0, 0);
-    let whole = fault(Refusal::NotTheParts, 3, 0, 0);
+    let unknown = refused(Refusal::UnknownAction, 2, 0, 0);
+    let others = refused(Refusal::NotTheParts, 1, 0, 0);
+    let whole = refused(Refusal::NotTheParts, 3, 0, 0);
     let folded: &[u16] = &[0, 6, 3];
     check_rows(
         &rt,
         &[
-            (SERVICE, Edit::Fold(2, 6), None, 0, folded),
-            (SERVICE, Edit::Fold(2, 7), unknown, 0, SERVICE),
-            (SERVICE, Edit::Fold(1, 6), others, 0, SERVICE),
-            (SERVICE, Edit::Fold(4, 7), no_step(4), 0, SERVICE),
-            (folded, Edit::Unfold(2), None, 0, SERVICE),
-            (folded, Edit::Unfold(3), whole, 0, folded),
-            (folded, Edit::Unfold(4), no_step(4), 0, folded),
+            (SERVICE, Call::Fold(2, 6), Ok(0), folded),
+            (SERVICE, Call::Fold(2, 7), unknown, SERVICE),
+            (SERVICE, Call::Fold(1, 6), others, SERVICE),
+            (SERVICE, Call::Fold(4, 7), no_step(4), SERVICE),
+            (folded, Call::Unfold(2), Ok(0), SERVICE),
+            (folded, Call::Unfold(3), whole, folded),
+            (folded, Call::Unfold(4), no_step(4), folded),
         ],
     );
 }
@@ -162,11 +145,11 @@ fn trims(rt: HostRuntime) {
     check_rows(
         &rt,
         &[
-            (SERVICE, Edit::Trim, None, 0, SERVICE),
-            (&[0, 4, 1, 2, 3], Edit::Trim, None, 250, SERVICE),
-            (&[0, 2, 1, 2, 3], Edit::Trim, None, 1200, SERVICE),
-            (&[0, 1, 2, 3, 0, 2], Edit::Trim, None, 1700, SERVICE),
-            (&[0, 4, 0, 6, 3], Edit::Trim, None, 750, &[0, 6, 3]),
+            (SERVICE, Call::Trim, Ok(0), SERVICE),
+            (&[0, 4, 1, 2, 3], Call::Trim, Ok(250), SERVICE),
+            (&[0, 2, 1, 2, 3], Call::Trim, Ok(1200), SERVICE),
+            (&[0, 1, 2, 3, 0, 2], Call::Trim, Ok(1700), SERVICE),
+            (&[0, 4, 0, 6, 3], Call::Trim, Ok(750), &[0, 6, 3]),
         ],
     );
 }
@@ -175,23 +158,22 @@ fn trims(rt: HostRuntime) {
 #[test]
 fn too_long(rt: HostRuntime) {
     let mut row = [0u16; 256];
-    row[254] = 6;
-    row[255] = 3;
+    row[254..].copy_from_slice(&[6, 3]);
     let mut order = Order::open(pile(), Bank::new(&CENTS));
     assert_eq!(rt; order.load(&row), Ok(()));
     assert_eq!(rt;
         order.unfold(255),
         Err(Fault::at_place(Refusal::TooManySteps, 257))
     );
-    assert_eq!(rt; order.plan().unwrap_or(&[]).len(), 256);
+    assert_eq!(rt; order.plan().map(|plan| plan.len()), Some(256));
     assert_eq!(rt; order.quote().value(), 129400);
 }
 
-fn answered(answer: Answer<Cents>) -> (Option<Fault>, u64) {
+fn answered(answer: Answer<Cents>) -> Credit {
     match answer {
-        Answer::Done => (None, 0),
-        Answer::Credit(credit) => (None, credit.value()),
-        Answer::Refused(fault) => (Some(fault), 0),
+        Answer::Done => Ok(0),
+        Answer::Credit(credit) => Ok(credit.value()),
+        Answer::Refused(fault) => Err(fault),
     }
 }
 
@@ -203,14 +185,11 @@ fn calls_in_a_row(rt: HostRuntime) {
     let mut order = Order::open(pile(), Bank::new(&CENTS));
     assert!(rt; order.carry_out(&calls, &mut answers[0..2]).is_err());
     assert!(rt; order.plan().is_none());
-    match order.carry_out(&calls, &mut answers) {
-        Ok(quote) => assert_eq!(rt; quote.value(), 2900),
-        Err(fault) => assert!(rt; false, "{fault}"),
-    }
-    for (answer, want) in answers
-        .into_iter()
-        .zip([(None, 0), (no_step(9), 0), (None, 250)])
-    {
-        assert_eq!(rt; answered(answer), want);
-    }
+    assert_eq!(rt;
+        order
+            .carry_out(&calls, &mut answers)
+            .map(|quote| quote.value()),
+        Ok(2900)
+    );
+    assert_eq!(rt; answers.map(answered), [Ok(0), no_step(9), Ok(250)]);
 }

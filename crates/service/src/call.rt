@@ -1,5 +1,5 @@
 // A call on an order that can change its plan.
-#[derive(Clone, Copy)]
+#[derive(Clone, Copy, Debug)]
 pub enum Call<'a> {
     Load(&'a [u16]),
     Drop(usize),
