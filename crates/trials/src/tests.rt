@@ -11,8 +11,8 @@ use planning::{Fault, Refusal};
 use std::fmt::Display;
 use std::process::Abort;
 
-// What a plan is to get that is refused over a bottom, where every atom first appears at height 0.
-fn refused(refusal: Refusal, place: usize, atom: u16, missing: u16) -> Result<(), Fault> {
+// What a plan or a step is to get that is refused over a bottom, where every atom first appears at height 0.
+fn refused<T>(refusal: Refusal, place: usize, atom: u16, missing: u16) -> Result<T, Fault> {
     Err(Fault {
         refusal,
         place,
@@ -23,11 +23,7 @@ fn refused(refusal: Refusal, place: usize, atom: u16, missing: u16) -> Result<()
 }
 
 fn set_of(atoms: &[u16]) -> Atoms {
-    let mut set = Atoms::empty();
-    for p in atoms {
-        set = set.insert(*p);
-    }
-    set
+    atoms.iter().fold(Atoms::empty(), |set, p| set.insert(*p))
 }
 
 // The set has the atoms of the list, which names none twice, and no others.
@@ -35,5 +31,5 @@ fn check_set<D: Display>(rt: &impl Abort, what: &D, set: Atoms, atoms: &[u16]) {
     for p in atoms {
         assert!(rt; set.contains(*p), "{what}: atom {p}");
     }
-    assert_eq!(rt; set.count() as usize, atoms.len(), "{what}");
+    assert_eq!(rt; usize::from(set.count()), atoms.len(), "{what}");
 }

@@ -6,9 +6,7 @@ use tasks::task::Task;
 fn check_action(
     rt: &impl Abort,
     a: u16,
-    needs: &[u16],
-    deletes: &[u16],
-    adds: &[u16],
+    [needs, deletes, adds]: [&[u16]; 3],
     kind: u16,
     base: &[u16],
 ) {
@@ -53,23 +51,15 @@ fn actions_known_and_unknown(rt: HostRuntime) {
         (65535, &[], &[], &[], 65535, &[]),
     ];
     for (a, needs, deletes, adds, kind, base) in rows {
-        check_action(&rt, a, needs, deletes, adds, kind, base);
+        check_action(&rt, a, [needs, deletes, adds], kind, base);
     }
 }
 
 // Which of some actions need, delete and add an atom.
-fn check_atom(rt: &impl Abort, p: u16, needing: &[u16], deleting: &[u16], adding: &[u16]) {
+fn check_atom(rt: &impl Abort, p: u16, doing: [&[u16]; 3]) {
     for a in [0, 1, 2, 3, 4, 5, 6, 7, 255, 256, 287, 288, 65535] {
-        let got = [
-            Bench.needs(a).contains(p),
-            Bench.deletes(a).contains(p),
-            Bench.adds(a).contains(p),
-        ];
-        let want = [
-            needing.contains(&a),
-            deleting.contains(&a),
-            adding.contains(&a),
-        ];
+        let got = [Bench.needs(a), Bench.deletes(a), Bench.adds(a)].map(|set| set.contains(p));
+        let want = doing.map(|actions| actions.contains(&a));
         assert_eq!(rt; got, want, "atom {p}, action {a}");
     }
     assert_eq!(rt; Bench.first_height(p), 0, "atom {p}");
@@ -93,7 +83,7 @@ fn atoms_known_and_unknown(rt: HostRuntime) {
     ];
     for (p, wanted, needing, deleting, adding) in rows {
         assert_eq!(rt; Bench.goal().contains(p), wanted, "atom {p} of the goal");
-        check_atom(&rt, p, needing, deleting, adding);
+        check_atom(&rt, p, [needing, deleting, adding]);
     }
 }
 
@@ -102,7 +92,7 @@ fn counts(rt: HostRuntime) {
     let rows = [
         ("atoms", Bench.atoms(), 5),
         ("actions", Bench.actions(), 6),
-        ("height", Bench.height() as u16, 0),
+        ("height", u16::from(Bench.height()), 0),
         ("atoms at first", Bench.initial().count(), 0),
         ("atoms of the goal", Bench.goal().count(), 1),
     ];

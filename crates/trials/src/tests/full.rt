@@ -41,56 +41,30 @@ fn plans_of_every_size(rt: HostRuntime) {
     }
 }
 
-fn check_all<D: Display>(
-    rt: &impl Abort,
-    what: &D,
-    set: Atoms,
-    n: u16,
-    low: Option<u16>,
-    high: Option<u16>,
-) {
+// How many atoms a set has, the lowest and the greatest.
+type Ends = (u16, Option<u16>, Option<u16>);
+
+fn check_all<D: Display>(rt: &impl Abort, what: &D, set: Atoms, ends: Ends) {
+    let n = ends.0;
     assert_eq!(rt;
         (set.count(), set.lowest(), set.greatest()),
-        (n, low, high),
+        ends,
         "{what}"
     );
     assert!(rt; !set.contains(n), "{what}: atom {n}");
 }
 
-fn check_size(rt: &impl Abort, given: u16, n: u16, low: Option<u16>, high: Option<u16>) {
+fn check_size(rt: &impl Abort, given: u16, ends: Ends) {
     let task = Full::new(given, 0);
-    assert_eq!(rt; task.atoms(), n, "{given} atoms");
-    check_all(
-        rt,
-        &format_args!("goal of {given}"),
-        task.goal(),
-        n,
-        low,
-        high,
-    );
-    check_all(
-        rt,
-        &format_args!("adds of {given}"),
-        task.adds(0),
-        n,
-        low,
-        high,
-    );
-    check_all(
-        rt,
-        &format_args!("needs of {given}"),
-        task.needs(1),
-        n,
-        low,
-        high,
-    );
+    assert_eq!(rt; task.atoms(), ends.0, "{given} atoms");
+    check_all(rt, &format_args!("goal of {given}"), task.goal(), ends);
+    check_all(rt, &format_args!("adds of {given}"), task.adds(0), ends);
+    check_all(rt, &format_args!("needs of {given}"), task.needs(1), ends);
     check_all(
         rt,
         &format_args!("deletes of {given}"),
         task.deletes(1),
-        n,
-        low,
-        high,
+        ends,
     );
     assert!(rt; task.initial().is_empty(), "initial of {given}");
     assert_eq!(rt;
@@ -119,7 +93,7 @@ fn sets_of_every_size(rt: HostRuntime) {
         (65535, 320, Some(0), Some(319)),
     ];
     for (given, n, low, high) in rows {
-        check_size(&rt, given, n, low, high);
+        check_size(&rt, given, (n, low, high));
     }
 }
 

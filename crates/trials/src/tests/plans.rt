@@ -6,11 +6,11 @@ use tasks::{Action, step, wants};
 const ROOM: usize = 300;
 
 // A plan that is all power-on but for these steps, which are numbered from 0 here.
-fn plan_with(steps: &[(usize, u16)]) -> [u16; 300] {
+fn plan_with(steps: &[(usize, u16)]) -> [u16; ROOM] {
     let mut plan = [0; ROOM];
-    for (i, a) in steps {
-        if *i < ROOM {
-            plan[*i] = *a;
+    for &(i, a) in steps {
+        if let Some(step) = plan.get_mut(i) {
+            *step = a;
         }
     }
     plan
@@ -61,33 +61,22 @@ fn long_plans(rt: HostRuntime) {
     }
 }
 
-// One step from the empty state.
-fn check_step(rt: &impl Abort, place: usize, a: u16, want: Result<(), Fault>, after: &[u16]) {
-    match step(&Bench, place, a, Atoms::empty()) {
-        Ok(state) => {
-            assert_eq!(rt; Ok(()), want, "place {place}, action {a}");
-            check_set(rt, &format_args!("place {place}, action {a}"), state, after);
-        }
-        Err(fault) => {
-            assert_eq!(rt; Err(fault), want, "place {place}, action {a}");
-        }
-    }
-}
-
+// One step from the empty state, and the state after it.
 #[test]
 fn steps_at_places(rt: HostRuntime) {
-    let rows: [(usize, u16, Result<(), Fault>, &[u16]); 8] = [
-        (1, 0, Ok(()), &[0]),
-        (256, 0, Ok(()), &[0]),
-        (256, 1, refused(Refusal::NotApplicable, 256, 0, 1), &[]),
-        (256, 6, refused(Refusal::UnknownAction, 256, 0, 0), &[]),
-        (257, 0, refused(Refusal::TooManySteps, 257, 0, 0), &[]),
-        (257, 1, refused(Refusal::TooManySteps, 257, 0, 0), &[]),
-        (257, 6, refused(Refusal::TooManySteps, 257, 0, 0), &[]),
-        (65536, 0, refused(Refusal::TooManySteps, 65536, 0, 0), &[]),
+    let rows: [(usize, u16, Result<&[u16], Fault>); 8] = [
+        (1, 0, Ok(&[0])),
+        (256, 0, Ok(&[0])),
+        (256, 1, refused(Refusal::NotApplicable, 256, 0, 1)),
+        (256, 6, refused(Refusal::UnknownAction, 256, 0, 0)),
+        (257, 0, refused(Refusal::TooManySteps, 257, 0, 0)),
+        (257, 1, refused(Refusal::TooManySteps, 257, 0, 0)),
+        (257, 6, refused(Refusal::TooManySteps, 257, 0, 0)),
+        (65536, 0, refused(Refusal::TooManySteps, 65536, 0, 0)),
     ];
-    for (place, a, want, after) in rows {
-        check_step(&rt, place, a, want, after);
+    for (place, a, want) in rows {
+        let got = step(&Bench, place, a, Atoms::empty());
+        assert_eq!(rt; got, want.map(set_of), "place {place}, action {a}");
     }
 }
 
@@ -117,32 +106,20 @@ fn states_after_actions(rt: HostRuntime) {
     }
 }
 
-fn check_wants(rt: &impl Abort, plan: &[u16], possible: bool, atoms: &[u16]) {
-    match wants(&Bench, plan) {
-        Some(set) => {
-            assert!(rt; possible, "plan {plan:?}");
-            check_set(rt, &format_args!("plan {plan:?}"), set, atoms);
-        }
-        None => {
-            assert!(rt; !possible, "plan {plan:?}");
-        }
-    }
-}
-
 #[test]
 fn wanted_before_plans(rt: HostRuntime) {
-    let rows: [(&[u16], bool, &[u16]); 9] = [
-        (&[], true, &[3]),
-        (&[3], true, &[1, 2]),
-        (&[2, 3], true, &[0, 1]),
-        (&[1, 2, 3], true, &[0]),
-        (&[0, 1, 2, 3], true, &[]),
-        (&[3, 1], false, &[]),
-        (&[4, 3], false, &[]),
-        (&[6], false, &[]),
-        (&[6, 0, 1, 2, 3], false, &[]),
+    let rows: [(&[u16], Option<&[u16]>); 9] = [
+        (&[], Some(&[3])),
+        (&[3], Some(&[1, 2])),
+        (&[2, 3], Some(&[0, 1])),
+        (&[1, 2, 3], Some(&[0])),
+        (&[0, 1, 2, 3], Some(&[])),
+        (&[3, 1], None),
+        (&[4, 3], None),
+        (&[6], None),
+        (&[6, 0, 1, 2, 3], None),
     ];
-    for (plan, possible, atoms) in rows {
-        check_wants(&rt, plan, possible, atoms);
+    for (plan, atoms) in rows {
+        assert_eq!(rt; wants(&Bench, plan), atoms.map(set_of), "plan {plan:?}");
     }
 }
