@@ -38,7 +38,7 @@ fn pile() -> MacroLayer<Bench> {
     pile
 }
 
-// What the order's own method answers to a call.
+// What the order's own method answers to a call. The rows hold calls and no closures, so that one that fails is printed.
 fn called(order: &mut Order<MacroLayer<Bench>, Bank<'_>>, call: Call<'_>) -> Credit {
     match call {
         Call::Drop(i) => return order.drop(i).map(|credit| credit.value()),

@@ -13,13 +13,15 @@ mod wide;
 
 use atoms::Atoms;
 use layers::{MacroLayer, RuleLayer};
+use planning::RuleSort::{Predecessor, Successor};
 use planning::{Fault, Join, Refusal, Rule, RuleSort};
 use std::fmt::Display;
 use std::process::Abort;
 use tasks::judge;
 use tasks::task::Task;
 
-// What a plan or a row is to get that is refused.
+// What a plan or a row is to get that is refused. Like `refused` in the tests of trials, which another crate can't use, but for the
+// layer.
 fn refused(
     refusal: Refusal,
     place: usize,
@@ -46,18 +48,9 @@ fn lacks_mark(place: usize, mark: u16, layer: u8) -> Result<(), Fault> {
     refused(Refusal::NotApplicable, place, mark, 1, layer)
 }
 
-fn successor(first: u16, second: u16, strict: bool) -> Rule {
+fn rule(sort: RuleSort, first: u16, second: u16, strict: bool) -> Rule {
     Rule {
-        sort: RuleSort::Successor,
-        first,
-        second,
-        strict,
-    }
-}
-
-fn predecessor(first: u16, second: u16, strict: bool) -> Rule {
-    Rule {
-        sort: RuleSort::Predecessor,
+        sort,
         first,
         second,
         strict,
@@ -90,12 +83,13 @@ fn joined<T: Task + Drop>(rt: &impl Abort, below: T, rows: &[(u16, u16, u16)]) -
     layer
 }
 
-// The set has the atoms of the list, which names none twice, and no others.
+// The set has the atoms of the list, which names none twice, and no others. As in the tests of trials, which another crate can't
+// use; outside of tests no function of this repository takes an `Abort`.
 fn check_set<D: Display>(rt: &impl Abort, what: &D, set: Atoms, atoms: &[u16]) {
     for p in atoms {
         assert!(rt; set.contains(*p), "{what}: atom {p}");
     }
-    assert_eq!(rt; set.count() as usize, atoms.len(), "{what}");
+    assert_eq!(rt; usize::from(set.count()), atoms.len(), "{what}");
 }
 
 fn check_plans<T: Task, D: Display>(
@@ -115,9 +109,7 @@ fn check_sets<T: Task, D: Display>(
     what: &D,
     task: &T,
     a: u16,
-    needs: &[u16],
-    deletes: &[u16],
-    adds: &[u16],
+    [needs, deletes, adds]: [&[u16]; 3],
 ) {
     check_set(rt, &format_args!("needs of {what}"), task.needs(a), needs);
     check_set(

@@ -4,6 +4,20 @@ use crate::tests::same::{check_kept, check_same};
 use pad::Bench;
 use std::process::Abort;
 
+// A row more changes none of the earlier answers, and none at all if it is refused.
+fn check_answers<T: Task, D: Display>(
+    rt: &impl Abort,
+    what: &D,
+    before: &T,
+    after: &T,
+    want: Result<(), Fault>,
+) {
+    check_kept(rt, &format_args!("{what}, earlier answers"), before, after);
+    if want.is_err() {
+        check_same(rt, &format_args!("{what}, all answers"), before, after);
+    }
+}
+
 // One atom more over the bench: if it is refused, no answer changes, and else none of the earlier ones, and its mark is the next.
 fn check_listing(
     rt: &impl Abort,
@@ -27,28 +41,16 @@ fn check_listing(
         6,
         "{what}: actions with {p} after {listed:?}"
     );
-    check_kept(
-        rt,
-        &format_args!("{what}, {p} after {listed:?}, earlier answers"),
-        &before,
-        &after,
-    );
-    if want.is_err() {
-        check_same(
-            rt,
-            &format_args!("{what}, {p} after {listed:?}, all answers"),
-            &before,
-            &after,
-        );
-    }
+    let case = format_args!("{what}, {p} after {listed:?}");
+    check_answers(rt, &case, &before, &after, want);
 }
 
 fn check_each_rule(rt: &impl Abort, listed: &[u16], p: u16, want: Result<(), Fault>, atoms: u16) {
     for (what, rule) in [
-        ("successor", successor(2, 3, false)),
-        ("strict successor", successor(4, 1, true)),
-        ("predecessor", predecessor(4, 1, false)),
-        ("strict predecessor", predecessor(2, 3, true)),
+        ("successor", rule(Successor, 2, 3, false)),
+        ("strict successor", rule(Successor, 4, 1, true)),
+        ("predecessor", rule(Predecessor, 4, 1, false)),
+        ("strict predecessor", rule(Predecessor, 2, 3, true)),
     ] {
         check_listing(rt, what, rule, listed, p, want, atoms);
     }
@@ -88,27 +90,16 @@ fn check_joining(
         "actions with {a}, {b} after {old:?}"
     );
     assert_eq!(rt; after.atoms(), 5, "atoms with {a}, {b} after {old:?}");
-    check_kept(
-        rt,
-        &format_args!("{a}, {b} after {old:?}, earlier answers"),
-        &before,
-        &after,
-    );
-    if want.is_err() {
-        check_same(
-            rt,
-            &format_args!("{a}, {b} after {old:?}, all answers"),
-            &before,
-            &after,
+    let case = format_args!("{a}, {b} after {old:?}");
+    check_answers(rt, &case, &before, &after, want);
+    if want.is_ok() {
+        let last = actions.saturating_sub(1);
+        assert_eq!(rt;
+            (after.parts(last), after.kind(last)),
+            (Some((a, b)), kind),
+            "{case}, the new action"
         );
-        return;
     }
-    let last = actions.saturating_sub(1);
-    assert_eq!(rt;
-        (after.parts(last), after.kind(last)),
-        (Some((a, b)), kind),
-        "{a}, {b} after {old:?}, the new action"
-    );
 }
 
 #[test]

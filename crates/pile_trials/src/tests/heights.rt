@@ -7,9 +7,9 @@ use std::process::Abort;
 
 // A rule, a macro and a rule over the bench: mark 5 is of the first rule, and marks 6 and 7 are of the second.
 pub fn tower(rt: &impl Abort) -> RuleLayer<MacroLayer<RuleLayer<Bench>>> {
-    let first = ruled(rt, Bench, predecessor(4, 1, false), &[0]);
+    let first = ruled(rt, Bench, rule(Predecessor, 4, 1, false), &[0]);
     let middle = joined(rt, first, &[(1, 2, 6)]);
-    ruled(rt, middle, successor(2, 3, false), &[2, 3])
+    ruled(rt, middle, rule(Successor, 2, 3, false), &[2, 3])
 }
 
 #[test]
@@ -84,7 +84,7 @@ fn heights_to_the_limit(rt: HostRuntime) {
         (254, 255, 255),
         (255, 255, 255),
     ] {
-        let rule = successor(0, 1, false);
+        let rule = rule(Successor, 0, 1, false);
         let one = ruled(&rt, Tall(height), rule, &[0]);
         assert_eq!(rt;
             (
@@ -121,10 +121,10 @@ fn check_raised<X: Task, Y: Task, D: Display>(rt: &impl Abort, what: &D, x: &X, 
 #[test]
 fn empty_layers(rt: HostRuntime) {
     for (what, rule) in [
-        ("successor", successor(2, 3, false)),
-        ("strict successor", successor(2, 3, true)),
-        ("predecessor", predecessor(4, 1, false)),
-        ("strict predecessor", predecessor(4, 1, true)),
+        ("successor", rule(Successor, 2, 3, false)),
+        ("strict successor", rule(Successor, 2, 3, true)),
+        ("predecessor", rule(Predecessor, 4, 1, false)),
+        ("strict predecessor", rule(Predecessor, 4, 1, true)),
     ] {
         check_raised(&rt, &what, &Bench, &RuleLayer::new(Bench, rule), 1);
         check_raised(
@@ -143,9 +143,9 @@ fn empty_layers(rt: HostRuntime) {
         &MacroLayer::new(tower(&rt)),
         4,
     );
-    let empties = MacroLayer::new(RuleLayer::new(Bench, successor(2, 3, true)));
+    let empties = MacroLayer::new(RuleLayer::new(Bench, rule(Successor, 2, 3, true)));
     check_raised(&rt, &"macros over a rule", &Bench, &empties, 2);
-    let marked = ruled(&rt, empties, successor(2, 3, true), &[2]);
+    let marked = ruled(&rt, empties, rule(Successor, 2, 3, true), &[2]);
     assert_eq!(rt;
         (marked.height(), marked.first_height(5)),
         (3, 3),

@@ -27,9 +27,7 @@ fn joined_actions(rt: HostRuntime) {
             &format_args!("{a}, {b}"),
             &layer,
             6,
-            needs,
-            deletes,
-            adds,
+            [needs, deletes, adds],
         );
         assert_eq!(rt; layer.kind(6), 77, "kind of {a}, {b}");
         assert_eq!(rt; layer.parts(6), Some((a, b)), "parts of {a}, {b}");

@@ -3,12 +3,12 @@ use pad::Bench;
 
 // Load-keys uses atom 0 only as reset left it.
 fn reset_first() -> Rule {
-    predecessor(4, 1, false)
+    rule(Predecessor, 4, 1, false)
 }
 
 // Of what align left of atom 2, seal alone makes use.
 fn align_for_seal() -> Rule {
-    successor(2, 3, false)
+    rule(Successor, 2, 3, false)
 }
 
 #[test]
@@ -20,11 +20,9 @@ fn macros_over_a_rule(rt: HostRuntime) {
         &"reset, load-keys",
         &layer,
         6,
-        &[0],
-        &[1, 2],
-        &[0, 1, 5],
+        [&[0], &[1, 2], &[0, 1, 5]],
     );
-    check_sets(&rt, &"load-keys, align", &layer, 7, &[0, 5], &[], &[1, 2]);
+    check_sets(&rt, &"load-keys, align", &layer, 7, [&[0, 5], &[], &[1, 2]]);
     check_plans(
         &rt,
         &"macros over a rule",
@@ -47,7 +45,13 @@ fn macros_over_two_rules(rt: HostRuntime) {
     let first = ruled(&rt, Bench, reset_first(), &[0]);
     let second = ruled(&rt, first, align_for_seal(), &[2]);
     let layer = joined(&rt, second, &[(1, 2, 6)]);
-    check_sets(&rt, &"load-keys, align", &layer, 6, &[0, 5], &[6], &[1, 2]);
+    check_sets(
+        &rt,
+        &"load-keys, align",
+        &layer,
+        6,
+        [&[0, 5], &[6], &[1, 2]],
+    );
     check_plans(
         &rt,
         &"macros over two rules",
@@ -141,9 +145,7 @@ fn macros_of_macros(rt: HostRuntime) {
             &format_args!("action {a}"),
             &layer,
             a,
-            needs,
-            deletes,
-            adds,
+            [needs, deletes, adds],
         );
         assert_eq!(rt;
             (layer.parts(a), layer.kind(a)),

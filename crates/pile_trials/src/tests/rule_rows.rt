@@ -4,7 +4,7 @@ use trials::Full;
 
 // A layer over `n` atoms that lists the first `len` of them.
 fn listing(rt: &impl Abort, n: u16, len: u16) -> RuleLayer<Full> {
-    let mut layer = RuleLayer::new(Full::new(n, 0), successor(0, 1, false));
+    let mut layer = RuleLayer::new(Full::new(n, 0), rule(Successor, 0, 1, false));
     for p in 0..len {
         assert_eq!(rt; layer.add(p), Ok(()), "listing {p}");
     }
@@ -89,7 +89,7 @@ fn gaps(rt: HostRuntime) {
         (&[5, 9], 40, bad),
     ];
     for (listed, p, want) in rows {
-        let mut layer = ruled(&rt, Full::new(40, 0), predecessor(0, 1, true), listed);
+        let mut layer = ruled(&rt, Full::new(40, 0), rule(Predecessor, 0, 1, true), listed);
         assert_eq!(rt; layer.add(p), want, "{p} after {listed:?}");
     }
 }

@@ -3,20 +3,15 @@ use crate::Wide;
 use pad::{Bench, judge_ruled};
 use std::process::Abort;
 
-fn check_bench(rt: &impl Abort, rule: Rule, listed: &[u16], rows: &[(&[u16], Result<(), Fault>)]) {
+fn check_rule<T: Task + Drop>(
+    rt: &impl Abort,
+    below: T,
+    rule: Rule,
+    listed: &[u16],
+    rows: &[(&[u16], Result<(), Fault>)],
+) {
     let (first, second, strict) = (rule.first, rule.second, rule.strict);
-    let layer = ruled(rt, Bench, rule, listed);
-    check_plans(
-        rt,
-        &format_args!("kinds {first}, {second}, strict {strict}, atoms {listed:?}"),
-        &layer,
-        rows,
-    );
-}
-
-fn check_wide(rt: &impl Abort, rule: Rule, listed: &[u16], rows: &[(&[u16], Result<(), Fault>)]) {
-    let (first, second, strict) = (rule.first, rule.second, rule.strict);
-    let layer = ruled(rt, Wide::new(2), rule, listed);
+    let layer = ruled(rt, below, rule, listed);
     check_plans(
         rt,
         &format_args!("kinds {first}, {second}, strict {strict}, atoms {listed:?}"),
@@ -28,9 +23,10 @@ fn check_wide(rt: &impl Abort, rule: Rule, listed: &[u16], rows: &[(&[u16], Resu
 // Only reset provides atom 0 for load-keys.
 #[test]
 fn predecessors(rt: HostRuntime) {
-    check_bench(
+    check_rule(
         &rt,
-        predecessor(4, 1, false),
+        Bench,
+        rule(Predecessor, 4, 1, false),
         &[0],
         &[
             (&[], refused(Refusal::GoalNotMet, 1, 3, 1, 0)),
@@ -58,9 +54,10 @@ fn predecessors(rt: HostRuntime) {
 
 #[test]
 fn strict_predecessors(rt: HostRuntime) {
-    check_bench(
+    check_rule(
         &rt,
-        predecessor(4, 1, true),
+        Bench,
+        rule(Predecessor, 4, 1, true),
         &[0],
         &[
             (&[], refused(Refusal::GoalNotMet, 1, 3, 1, 0)),
@@ -78,7 +75,13 @@ fn strict_predecessors(rt: HostRuntime) {
         (&[1, 0, 0], lacks_mark(3, 2, 1)),
         (&[0, 1, 0], Ok(())),
     ];
-    check_wide(&rt, predecessor(1, 0, false), &[0], free);
+    check_rule(
+        &rt,
+        Wide::new(2),
+        rule(Predecessor, 1, 0, false),
+        &[0],
+        free,
+    );
     let strict: &[(&[u16], Result<(), Fault>)] = &[
         (&[], refused(Refusal::GoalNotMet, 1, 1, 1, 0)),
         (&[0], lacks_mark(1, 2, 1)),
@@ -87,15 +90,22 @@ fn strict_predecessors(rt: HostRuntime) {
         (&[1, 0, 0], lacks_mark(3, 2, 1)),
         (&[1, 1, 0], Ok(())),
     ];
-    check_wide(&rt, predecessor(1, 0, true), &[0], strict);
+    check_rule(
+        &rt,
+        Wide::new(2),
+        rule(Predecessor, 1, 0, true),
+        &[0],
+        strict,
+    );
 }
 
 // Of what align left of atom 2, seal alone makes use.
 #[test]
 fn successors(rt: HostRuntime) {
-    check_bench(
+    check_rule(
         &rt,
-        successor(2, 3, false),
+        Bench,
+        rule(Successor, 2, 3, false),
         &[2],
         &[
             (&[], refused(Refusal::GoalNotMet, 1, 3, 1, 0)),
@@ -115,9 +125,10 @@ fn successors(rt: HostRuntime) {
 
 #[test]
 fn strict_successors(rt: HostRuntime) {
-    check_bench(
+    check_rule(
         &rt,
-        successor(2, 3, true),
+        Bench,
+        rule(Successor, 2, 3, true),
         &[2],
         &[
             (&[], refused(Refusal::GoalNotMet, 1, 3, 1, 0)),
@@ -138,14 +149,21 @@ fn strict_successors(rt: HostRuntime) {
         (&[0, 1], Ok(())),
         (&[0, 1, 0], refused(Refusal::GoalNotMet, 4, 2, 2, 1)),
     ];
-    check_wide(&rt, successor(0, 1, true), &[0, 1], rows);
+    check_rule(
+        &rt,
+        Wide::new(2),
+        rule(Successor, 0, 1, true),
+        &[0, 1],
+        rows,
+    );
 }
 
 #[test]
 fn several_atoms(rt: HostRuntime) {
-    check_bench(
+    check_rule(
         &rt,
-        successor(4, 1, false),
+        Bench,
+        rule(Successor, 4, 1, false),
         &[0, 1, 2],
         &[
             (&[0, 4, 1, 2, 3], lacks_mark(4, 5, 1)),
@@ -170,8 +188,8 @@ fn two_atoms_for_one_use(rt: HostRuntime) {
         (2, false, &[3], refused(Refusal::NotApplicable, 1, 1, 2, 0)),
         (2, true, &[3], refused(Refusal::NotApplicable, 1, 1, 4, 0)),
     ] {
-        let rule = predecessor(first, 3, strict);
-        check_bench(&rt, rule, &[1, 2], &[(plan, want)]);
+        let rule = rule(Predecessor, first, 3, strict);
+        check_rule(&rt, Bench, rule, &[1, 2], &[(plan, want)]);
     }
 }
 
@@ -186,7 +204,7 @@ fn one_atom_on_the_bench(rt: HostRuntime) {
         (65535, &[0, 3], refused(Refusal::NotApplicable, 2, 1, 2, 0)),
     ];
     for (p, plan, want) in rows {
-        let got = judge_ruled(predecessor(4, 1, false), p, plan);
+        let got = judge_ruled(rule(Predecessor, 4, 1, false), p, plan);
         assert_eq!(rt; got, want, "atom {p}, plan {plan:?}");
     }
 }
