@@ -52,6 +52,7 @@ fn show_rule(
     show_title(rt, title)?;
     let mut layer = RuleLayer::new(Bench, rule);
     show_row(rt, layer.add(p))?;
+    // not by `show_over`: the verdict is that of the pad's own function
     for plan in plans {
         show_plan(rt, &layer, plan, judge_ruled(rule, p, plan))?;
     }

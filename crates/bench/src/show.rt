@@ -1,3 +1,6 @@
+ghost use Rattle.std.specs.Prelude.{Some};
+ghost use Rattle.bench.specs.Names.{name_text};
+
 use atoms::Atoms;
 use pad::Bench;
 use pad::bench::{ACTIONS, ATOMS};
@@ -14,6 +17,8 @@ enum Name {
 }
 
 impl fmt::Display for Name {
+    ghost output = { λ n. Some (name_text n) };
+
     fn fmt<W: fmt::Write>(&self, f: &mut fmt::Formatter<W>) -> fmt::Result {
         match *self {
             Name::Action(a) if a < ACTIONS => f.write_str(Bench::action_name(a)),
