@@ -21,6 +21,6 @@ pub fn show_plans(rt: &HostRuntime) -> io::Result<()> {
     show(rt, "seal too early", &[0, 3])?;
     show(rt, "an unknown action", &[0, 1, 6, 3])?;
     let row = long_row();
-    show(rt, "256 steps", &row[1..257])?;
+    show(rt, "256 steps", &row[1..])?;
     show(rt, "257 steps", &row)
 }

@@ -42,6 +42,23 @@ const RELOAD: Join = Join {
     kind: 7,
 };
 
+fn ruled<T: Task + Drop>(
+    rt: &HostRuntime,
+    below: T,
+    rule: Rule,
+    p: u16,
+) -> io::Result<RuleLayer<T>> {
+    let mut layer = RuleLayer::new(below, rule);
+    show_row(rt, layer.add(p))?;
+    Ok(layer)
+}
+
+fn joined<T: Task + Drop>(rt: &HostRuntime, below: T, row: Join) -> io::Result<MacroLayer<T>> {
+    let mut layer = MacroLayer::new(below);
+    show_row(rt, layer.add(row))?;
+    Ok(layer)
+}
+
 fn show_rule(
     rt: &HostRuntime,
     title: &str,
@@ -50,8 +67,7 @@ fn show_rule(
     plans: &[&[u16]],
 ) -> io::Result<()> {
     show_title(rt, title)?;
-    let mut layer = RuleLayer::new(Bench, rule);
-    show_row(rt, layer.add(p))?;
+    let layer = ruled(rt, Bench, rule, p)?;
     // not by `show_over`: the verdict is that of the pad's own function
     for plan in plans {
         show_plan(rt, &layer, plan, judge_ruled(rule, p, plan))?;
@@ -89,8 +105,7 @@ pub fn show_macros(rt: &HostRuntime) -> io::Result<()> {
         rt,
         "macros: load-keys then align as action 6; seal then load-keys",
     )?;
-    let mut layer = MacroLayer::new(Bench);
-    show_row(rt, layer.add(PREPARE))?;
+    let mut layer = joined(rt, Bench, PREPARE)?;
     show_row(rt, layer.add(RELOAD))?;
     let plan: &[u16] = &[0, 6, 3];
     show_plan(rt, &layer, plan, judge_joined(PREPARE, plan))
@@ -105,21 +120,15 @@ fn show_over<P: Task>(rt: &HostRuntime, task: &P, plans: &[&[u16]]) -> io::Resul
 
 pub fn show_piles(rt: &HostRuntime) -> io::Result<()> {
     show_title(rt, "the macro, over both rules")?;
-    let mut first = RuleLayer::new(Bench, RESET_FIRST);
-    show_row(rt, first.add(0))?;
-    let mut second = RuleLayer::new(first, ALIGN_FOR_SEAL);
-    show_row(rt, second.add(2))?;
-    let mut top = MacroLayer::new(second);
-    show_row(rt, top.add(PREPARE))?;
+    let first = ruled(rt, Bench, RESET_FIRST, 0)?;
+    let second = ruled(rt, first, ALIGN_FOR_SEAL, 2)?;
+    let top = joined(rt, second, PREPARE)?;
     show_over(rt, &top, &[&[0, 4, 6, 3], &[0, 6, 3], &[0, 4, 6, 3, 5]])?;
 
     show_title(rt, "both rules, over the macro")?;
-    let mut bottom = MacroLayer::new(Bench);
-    show_row(rt, bottom.add(PREPARE))?;
-    let mut middle = RuleLayer::new(bottom, ALIGN_FOR_SEAL);
-    show_row(rt, middle.add(2))?;
-    let mut upper = RuleLayer::new(middle, RESET_FIRST);
-    show_row(rt, upper.add(0))?;
+    let bottom = joined(rt, Bench, PREPARE)?;
+    let middle = ruled(rt, bottom, ALIGN_FOR_SEAL, 2)?;
+    let upper = ruled(rt, middle, RESET_FIRST, 0)?;
     show_over(
         rt,
         &upper,
