@@ -42,6 +42,7 @@ const RELOAD: Join = Join {
     kind: 7,
 };
 
+// A layer of one row; `joined` is apart, since a trait over both sorts of layer would be longer than the two functions.
 fn ruled<T: Task + Drop>(
     rt: &HostRuntime,
     below: T,

@@ -65,7 +65,8 @@ fn join(first: u16, second: u16, kind: u16) -> Join {
     }
 }
 
-// A rule layer that lists these atoms.
+// A rule layer that lists these atoms; `joined` is apart, since a trait over both sorts of layer would be longer than the two
+// functions.
 fn ruled<T: Task + Drop>(rt: &impl Abort, below: T, rule: Rule, listed: &[u16]) -> RuleLayer<T> {
     let mut layer = RuleLayer::new(below, rule);
     for p in listed {
