@@ -46,11 +46,7 @@ type Ends = (u16, Option<u16>, Option<u16>);
 
 fn check_all<D: Display>(rt: &impl Abort, what: &D, set: Atoms, ends: Ends) {
     let n = ends.0;
-    assert_eq!(rt;
-        (set.count(), set.lowest(), set.greatest()),
-        ends,
-        "{what}"
-    );
+    assert_eq!(rt; (set.count(), set.lowest(), set.greatest()), ends, "{what}");
     assert!(rt; !set.contains(n), "{what}: atom {n}");
 }
 
