@@ -8,6 +8,7 @@ ghost use Rattle.planning.proofs.Same.{same_equivalence};
 
 use std::array;
 
+// Clauses read it by `has`, and not by an `impl Model`: a function has no code, and the library's finite sets would be no plainer.
 #[derive(Clone, Copy, Debug, Default)]
 pub struct Atoms {
     // atom p is digit p % 64 of word p / 64
@@ -75,6 +76,7 @@ impl Atoms {
         self.by_word(other, |a, b| a & !b)
     }
 
+    // Here and below each `as u16` is shown to fit; `try_from` would add a case that never comes.
     pub fn count(self) -> u16
         ensures { result ≡ count (has self) 320 }
     {
@@ -122,7 +124,7 @@ impl PartialEq for Atoms {
     }
 }
 
-// By hand, since the proof of a derived one doesn't close.
+// By hand: a derive is not proved without this same law, written in a block of its own.
 impl Eq for Atoms {
     ghost laws = { on_equiv has (same_equivalence 320) };
 }

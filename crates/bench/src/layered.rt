@@ -42,7 +42,8 @@ const RELOAD: Join = Join {
     kind: 7,
 };
 
-// A layer of one row; `joined` is apart, since a trait over both sorts of layer would be longer than the two functions.
+// A layer of one row; `joined` is apart, since a trait over both sorts of layer would need a member for the row, for the rows' task and
+// for `add`, to save one of these two.
 fn ruled<T: Task + Drop>(
     rt: &HostRuntime,
     below: T,

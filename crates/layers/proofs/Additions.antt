@@ -6,28 +6,31 @@ use Rattle.planning.specs.Verdicts.{Verdict, on_ok}
 use Rattle.planning.specs.declared.fault.Fault.{Fault}
 use Rattle.layers.specs.Adding.{Added}
 
-module _ {Table Row : Type 0} (rows : Table → List Row) (Below : Type 0) (Fit : List Row → Type 0) (defined : Result (List Row) Fault) (old : Table) (row : Row)
-    (decides : Below → Fit (rows old) → Decides (is_ok defined) (Fit (rows old ++ row ∷ []))) where
-  decides_by : (d : Result (List Row) Fault) → (Below → d ≡ defined) → Below → Fit (rows old) → Decides (is_ok d) (Fit (rows old ++ row ∷ []))
-  decides_by d e b fit = subst (λ (x : Result (List Row) Fault). Decides (is_ok x) (Fit (rows old ++ row ∷ []))) (sym (e b)) (decides b fit)
+module _ {Row : Type 0} (Fit : List Row → Type 0) (defined : Result (List Row) Fault) (old : List Row) (row : Row)
+    (decides : Fit old → Decides (is_ok defined) (Fit (old ++ row ∷ []))) (fit : Fit old) where
+  decides_by : (d : Result (List Row) Fault) → d ≡ defined → Decides (is_ok d) (Fit (old ++ row ∷ []))
+  decides_by d e = subst (λ (x : Result (List Row) Fault). Decides (is_ok x) (Fit (old ++ row ∷ []))) (sym e) (decides fit)
 
-  pub added_none : (f : Fault) → (Below → Err f ≡ defined) → Added rows Below Fit defined old old row (Err f)
-  added_none f e = record { behind = refl; refused = λ _. refl; exact = e; decides = decides_by (Err f) e; fits = λ b fit. fit }
+  pub added_none : (f : Fault) → Err f ≡ defined → Added Fit defined old old row (Err f)
+  added_none f e = record { behind = refl; refused = λ _. refl; exact = e; decides = decides_by (Err f) e; fits = fit }
 
-  pub added_one : (new : Table) → rows new ≡ rows old ++ row ∷ [] → (Below → Ok (rows old ++ row ∷ []) ≡ defined) → Added rows Below Fit defined old new row (Ok tt)
+  pub fits_more : Ok (old ++ row ∷ []) ≡ defined → Fit (old ++ row ∷ [])
+  fits_more e = (decides_by (Ok (old ++ row ∷ [])) e).0 refl
+
+  pub added_one : (new : List Row) → new ≡ old ++ row ∷ [] → Ok (old ++ row ∷ []) ≡ defined → Added Fit defined old new row (Ok tt)
   added_one new is e = record {
     behind = is;
     refused = λ x. absurd (true≢false x);
-    exact = λ b. ap Ok is ∙ e b;
-    decides = decides_by (Ok (rows old ++ row ∷ [])) e;
-    fits = λ b fit. subst Fit (sym is) ((decides_by (Ok (rows old ++ row ∷ [])) e b fit).0 refl);
+    exact = ap Ok is ∙ e;
+    decides = decides_by (Ok (old ++ row ∷ [])) e;
+    fits = subst Fit (sym is) (fits_more e);
   }
 
 -- the rows afterwards: as defined, or as before
-pub added_rows : {Table Row : Type 0} (rows : Table → List Row) (Below : Type 0) (Fit : List Row → Type 0) (defined : Result (List Row) Fault) (old new : Table) (row : Row) (r : Verdict)
-    → Added rows Below Fit defined old new row r → Below → rows new ≡ result_unwrap_or defined (rows old)
-added_rows rows Below Fit defined old new row r a b = go r (a.exact b) a.behind
+pub added_rows : {Row : Type 0} (Fit : List Row → Type 0) (defined : Result (List Row) Fault) (old new : List Row) (row : Row) (r : Verdict)
+    → Added Fit defined old new row r → new ≡ result_unwrap_or defined old
+added_rows Fit defined old new row r a = go r a.exact a.behind
   where
-    go : (r : Verdict) → on_ok (λ _. rows new) r ≡ defined → rows new ≡ cond (is_ok r) (rows old ++ row ∷ []) (rows old) → rows new ≡ result_unwrap_or defined (rows old)
-    go (Ok u) e f = ap (λ d. result_unwrap_or d (rows old)) e
-    go (Err x) e f = f ∙ ap (λ d. result_unwrap_or d (rows old)) e
+    go : (r : Verdict) → on_ok (λ _. new) r ≡ defined → new ≡ cond (is_ok r) (old ++ row ∷ []) old → new ≡ result_unwrap_or defined old
+    go (Ok u) e f = ap (λ d. result_unwrap_or d old) e
+    go (Err x) e f = f ∙ ap (λ d. result_unwrap_or d old) e

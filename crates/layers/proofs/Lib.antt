@@ -1,4 +1,3 @@
 pub mod Additions
 mod Joined
-mod Tables
 mod Marking

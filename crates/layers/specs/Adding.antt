@@ -3,13 +3,13 @@ use Rattle.std.specs.Prelude.{◌≡◌, false, cond, List, [], ◌∷◌, ◌++
 use Rattle.planning.specs.Verdicts.{Verdict, on_ok}
 use Rattle.planning.specs.declared.fault.Fault.{Fault}
 
--- from the table `old` to `new` by the row, with the answer r; Fit are the rows that the layer accepts, and `defined` the rows with this
--- one behind them or the fault, as defined; what depends on the task below holds if that is built
-pub record Added {Table Row : Type 0} (rows : Table → List Row) (Below : Type 0) (Fit : List Row → Type 0) (defined : Result (List Row) Fault) (old new : Table) (row : Row) (r : Verdict) : Type 0 where
+-- from the rows `old` to `new` by the row, with the answer r; Fit are the rows that the layer accepts, and `defined` the rows with this
+-- one behind them or the fault, as defined
+pub record Added {Row : Type 0} (Fit : List Row → Type 0) (defined : Result (List Row) Fault) (old new : List Row) (row : Row) (r : Verdict) : Type 0 where
   -- an accepted row stands behind the earlier ones, a refused one changes nothing
-  pub behind : rows new ≡ cond (is_ok r) (rows old ++ row ∷ []) (rows old)
+  pub behind : new ≡ cond (is_ok r) (old ++ row ∷ []) old
   pub refused : is_ok r ≡ false → new ≡ old
-  pub exact : Below → on_ok (λ _. rows new) r ≡ defined
+  pub exact : on_ok (λ _. new) r ≡ defined
   -- accepted exactly when the extended rows are acceptable
-  pub decides : Below → Fit (rows old) → Decides (is_ok r) (Fit (rows old ++ row ∷ []))
-  pub fits : Below → Fit (rows old) → Fit (rows new)
+  pub decides : Decides (is_ok r) (Fit (old ++ row ∷ []))
+  pub fits : Fit new

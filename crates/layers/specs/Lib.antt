@@ -1,4 +1,3 @@
-pub mod Tables
 pub mod Marking
 pub mod Adding
 pub mod Joining

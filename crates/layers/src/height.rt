@@ -5,5 +5,5 @@ ghost use Rattle.planning.specs.Marks.{higher};
 pub fn one_higher(height: u8) -> u8
     ensures { result ≡ higher height }
 {
-    if height < 255 { height + 1 } else { 255 }
+    height.saturating_add(1)
 }

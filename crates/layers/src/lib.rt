@@ -4,10 +4,8 @@
 mod height;
 pub mod joining;
 pub mod macro_layer;
-mod macro_table;
 pub mod marks;
 pub mod rule_layer;
-mod rule_table;
 
 pub use macro_layer::MacroLayer;
 pub use rule_layer::RuleLayer;

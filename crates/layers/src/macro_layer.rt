@@ -1,19 +1,20 @@
-ghost use Rattle.std.specs.Prelude.{◌≡◌, ◌<◌, true, [], ◌∷◌, ◌++◌, length, is_ok};
-ghost use Rattle.planning.specs.Piles.{Pile, Built, macros, meaning, raised};
+ghost use Rattle.std.specs.Prelude.{◌≡◌, ◌-◌, ◌<◌, true, [], ◌∷◌, ◌++◌, length, is_ok, slice_get};
+ghost use Rattle.planning.specs.Piles.{Built, macros, meaning, raised};
 ghost use Rattle.planning.specs.Rows.{MacroRows, macro_room, macro_row};
 ghost use Rattle.planning.specs.Verdicts.{on_ok};
+ghost use Rattle.planning.proofs.Props.{built_prop};
 ghost use Rattle.layers.specs.Adding.{Added};
-ghost use Rattle.layers.specs.Tables.{joins, macro_pile};
 
 use crate::height::one_higher;
 use crate::joining::{clash, join_actions};
-use crate::macro_table::MacroTable;
-use crate::macro_table::ops::MOST_MACROS;
+use arrayvec::ArrayVec;
 use atoms::Atoms;
 use planning::{Fault, Join, Refusal};
 use tasks::action::NO_KIND;
 use tasks::task::Task;
 use tasks::{Action, BaseSteps};
+
+const MOST_MACROS: usize = 16;
 
 const MOST_ACTIONS: usize = 288;
 
@@ -21,22 +22,26 @@ const MOST_BASE_STEPS: usize = 8;
 
 // Macros over the task below: each row joins two of its actions.
 #[derive(Drop)]
-pub struct MacroLayer<T> {
+pub struct MacroLayer<T: Task> {
     below: T,
     // the number of the first macro: how many actions there are below
     from: u16,
-    table: MacroTable,
+    rows: ArrayVec<Join, MOST_MACROS>,
+    ghost built: { Built (macros (T.pile below) from rows.items) } by { built_prop (macros (T.pile below) from rows.items) },
 }
 
 impl<T: Task> Task for MacroLayer<T> {
-    ghost pile = { λ s. macro_pile (T.Task.pile s.below) s.from s.table };
+    ghost pile = { λ s. macros (T.Task.pile s.below) s.from s.rows.items };
+
+    ghost built = { λ s. s.built };
 
     fn atoms(&self) -> u16 {
         self.below.atoms()
     }
 
+    // A length of at most 16 is shown to fit; `try_from` would add a case that never comes.
     fn actions(&self) -> u16 {
-        self.from.saturating_add(self.table.len() as u16)
+        self.from.saturating_add(self.rows.len() as u16)
     }
 
     fn initial(&self) -> Atoms {
@@ -51,7 +56,7 @@ impl<T: Task> Task for MacroLayer<T> {
         if a < self.from {
             return self.below.action(a);
         }
-        match self.table.get(a - self.from) {
+        match self.row(a) {
             Some(row) => join_actions(
                 self.below.action(row.first),
                 self.below.action(row.second),
@@ -65,7 +70,7 @@ impl<T: Task> Task for MacroLayer<T> {
         if a < self.from {
             return self.below.base_steps(a);
         }
-        match self.table.get(a - self.from) {
+        match self.row(a) {
             Some(row) => self
                 .below
                 .base_steps(row.first)
@@ -78,10 +83,7 @@ impl<T: Task> Task for MacroLayer<T> {
         if a < self.from {
             return self.below.parts(a);
         }
-        match self.table.get(a - self.from) {
-            Some(row) => Some((row.first, row.second)),
-            None => None,
-        }
+        self.row(a).map(|row| (row.first, row.second))
     }
 
     fn height(&self) -> u8 {
@@ -97,22 +99,26 @@ impl<T: Task> MacroLayer<T> {
     // Has no row yet.
     pub fn new(below: T) -> MacroLayer<T>
         ensures below { result.below ≡ below }
-        ensures pile { macro_pile (T.Task.pile result.below) result.from result.table ≡ macros (T.Task.pile below) result.from [] }
-        ensures built { Built (T.Task.pile below) → Built (macro_pile (T.Task.pile result.below) result.from result.table) }
-        ensures empty { Built (T.Task.pile below) → meaning (macro_pile (T.Task.pile result.below) result.from result.table) ≡ raised (meaning (T.Task.pile below)) }
+        ensures pile { macros (T.Task.pile result.below) result.from result.rows.items ≡ macros (T.Task.pile below) result.from [] }
+        ensures empty { meaning (macros (T.Task.pile result.below) result.from result.rows.items) ≡ raised (meaning (T.Task.pile below)) }
     {
         let from = below.actions();
-        MacroLayer {
-            below,
-            from,
-            table: MacroTable::new(),
-        }
+        let rows = ArrayVec::new();
+        MacroLayer { below, from, rows }
+    }
+
+    // The row of a macro: the first one's for any lower number.
+    fn row(&self, a: u16) -> Option<Join>
+        ensures { result ≡ slice_get self.now.rows.items (a - self.now.from) }
+    {
+        let k = a.saturating_sub(self.from);
+        self.rows.as_slice().get(usize::from(k)).copied()
     }
 
     // Why the row cannot stand behind the others.
     fn check(&self, row: Join) -> Result<(), Fault>
-        ensures room { is_ok result ≡ true → length (joins self.now.table) < 16 }
-        ensures exact { Built (T.Task.pile self.now.below) → on_ok (λ _. joins self.now.table ++ row ∷ []) result ≡ macro_row (meaning (T.Task.pile self.now.below)) (joins self.now.table) row }
+        ensures room { is_ok result ≡ true → length self.now.rows.items < 16 }
+        ensures exact { on_ok (λ _. self.now.rows.items ++ row ∷ []) result ≡ macro_row (meaning (T.Task.pile self.now.below)) self.now.rows.items row }
     {
         let m = self.below.actions();
         if row.first >= m {
@@ -127,11 +133,9 @@ impl<T: Task> MacroLayer<T> {
         let atoms = clash(self.below.action(row.first), self.below.action(row.second));
         if let Some(atom) = atoms.lowest() {
             return Err(Fault {
-                refusal: Refusal::NotJoinable,
-                place: 0,
                 atom,
-                missing: 0,
                 layer: self.below.first_height(atom),
+                ..Fault::at_place(Refusal::NotJoinable, 0)
             });
         }
         self.check_room(row)
@@ -139,16 +143,16 @@ impl<T: Task> MacroLayer<T> {
 
     // Why there is no room for the row.
     fn check_room(&self, row: Join) -> Result<(), Fault>
-        ensures room { is_ok result ≡ true → length (joins self.now.table) < 16 }
-        ensures exact { Built (T.Task.pile self.now.below) → on_ok (λ _. joins self.now.table ++ row ∷ []) result ≡ macro_room (meaning (T.Task.pile self.now.below)) (joins self.now.table) row }
+        ensures room { is_ok result ≡ true → length self.now.rows.items < 16 }
+        ensures exact { on_ok (λ _. self.now.rows.items ++ row ∷ []) result ≡ macro_room (meaning (T.Task.pile self.now.below)) self.now.rows.items row }
     {
-        let len = self.table.len();
+        let len = self.rows.len();
         if len >= MOST_MACROS {
             return Err(Fault::at_place(Refusal::TableFull, 0));
         }
         let steps = self.below.base_steps(row.first).len()
             + self.below.base_steps(row.second).len();
-        if self.below.actions() as usize + len >= MOST_ACTIONS || steps > MOST_BASE_STEPS {
+        if usize::from(self.below.actions()) + len >= MOST_ACTIONS || steps > MOST_BASE_STEPS {
             return Err(Fault::at_place(Refusal::OverLimit, 0));
         }
         Ok(())
@@ -158,10 +162,10 @@ impl<T: Task> MacroLayer<T> {
     pub fn add(&mut self, row: Join) -> Result<(), Fault>
         ensures below { self.new.below ≡ self.old.below }
         ensures from { self.new.from ≡ self.old.from }
-        ensures added { Added joins (Built (T.Task.pile self.old.below)) (MacroRows (meaning (T.Task.pile self.old.below))) (macro_row (meaning (T.Task.pile self.old.below)) (joins self.old.table) row) self.old.table self.new.table row result }
+        ensures added { Added (MacroRows (meaning (T.Task.pile self.old.below))) (macro_row (meaning (T.Task.pile self.old.below)) self.old.rows.items row) self.old.rows.items self.new.rows.items row result }
     {
         self.check(row)?;
-        self.table = self.table.push(row);
+        self.rows.push(row);
         Ok(())
     }
 }

@@ -1,35 +1,44 @@
 ghost use Rattle.std.specs.Prelude.{◌≡◌, ◌<◌, true, [], ◌∷◌, ◌++◌, length, is_ok};
-ghost use Rattle.planning.specs.Piles.{Pile, Built, ruled, meaning, raised};
-ghost use Rattle.planning.specs.Rows.{RuleRows, rule_row};
+ghost use Rattle.atoms.specs.Has.{has};
+ghost use Rattle.planning.specs.Sets.{Under};
+ghost use Rattle.planning.specs.Marks.{marked};
+ghost use Rattle.planning.specs.Piles.{Built, ruled, meaning, raised};
+ghost use Rattle.planning.specs.Rows.{RuleRows, above, rule_row};
 ghost use Rattle.planning.specs.Verdicts.{on_ok};
+ghost use Rattle.planning.proofs.Props.{built_prop};
 ghost use Rattle.layers.specs.Adding.{Added};
-ghost use Rattle.layers.specs.Tables.{listed, rule_pile};
 
 use crate::height::one_higher;
 use crate::marks::{all_if, marks_by, marks_end, marks_start};
-use crate::rule_table::RuleTable;
-use crate::rule_table::ops::MOST_ATOMS;
+use arrayvec::ArrayVec;
 use atoms::Atoms;
 use planning::{Fault, Refusal, Rule};
 use tasks::task::Task;
 use tasks::{Action, BaseSteps};
 
+const MOST_ATOMS: usize = 32;
+
 const MOST_TASK_ATOMS: usize = 320;
 
 // A rule over the task below, for the atoms that it lists.
 #[derive(Drop)]
-pub struct RuleLayer<T> {
+pub struct RuleLayer<T: Task> {
     below: T,
     // the number of the first mark: how many atoms there are below
     from: u16,
-    table: RuleTable,
+    rule: Rule,
+    listed: ArrayVec<u16, MOST_ATOMS>,
+    ghost built: { Built (ruled (T.pile below) from rule listed.items) } by { built_prop (ruled (T.pile below) from rule listed.items) },
 }
 
 impl<T: Task> Task for RuleLayer<T> {
-    ghost pile = { λ s. rule_pile (T.Task.pile s.below) s.from s.table };
+    ghost pile = { λ s. ruled (T.Task.pile s.below) s.from s.rule s.listed.items };
 
+    ghost built = { λ s. s.built };
+
+    // A length of at most 32 is shown to fit; `try_from` would add a case that never comes. So does an index below.
     fn atoms(&self) -> u16 {
-        self.from.saturating_add(self.table.len() as u16)
+        self.from.saturating_add(self.listed.len() as u16)
     }
 
     fn actions(&self) -> u16 {
@@ -37,22 +46,20 @@ impl<T: Task> Task for RuleLayer<T> {
     }
 
     fn initial(&self) -> Atoms {
-        let marks = all_if(marks_start(self.table.rule));
-        self.table.mark(self.from, self.below.initial(), marks)
+        self.mark(self.below.initial(), all_if(marks_start(self.rule)))
     }
 
     fn goal(&self) -> Atoms {
-        let marks = all_if(marks_end(self.table.rule));
-        self.table.mark(self.from, self.below.goal(), marks)
+        self.mark(self.below.goal(), all_if(marks_end(self.rule)))
     }
 
     fn action(&self, a: u16) -> Action {
         let action = self.below.action(a);
-        let marks = marks_by(self.table.rule, action);
+        let marks = marks_by(self.rule, action);
         Action {
-            needs: self.table.mark(self.from, action.needs, marks.needs),
-            deletes: self.table.mark(self.from, action.deletes, marks.deletes),
-            adds: self.table.mark(self.from, action.adds, marks.adds),
+            needs: self.mark(action.needs, marks.needs),
+            deletes: self.mark(action.deletes, marks.deletes),
+            adds: self.mark(action.adds, marks.adds),
             kind: action.kind,
         }
     }
@@ -84,32 +91,53 @@ impl<T: Task> RuleLayer<T> {
     // Lists no atom yet.
     pub fn new(below: T, rule: Rule) -> RuleLayer<T>
         ensures below { result.below ≡ below }
-        ensures pile { rule_pile (T.Task.pile result.below) result.from result.table ≡ ruled (T.Task.pile below) result.from rule [] }
-        ensures built { Built (T.Task.pile below) → Built (rule_pile (T.Task.pile result.below) result.from result.table) }
-        ensures empty { Built (T.Task.pile below) → meaning (rule_pile (T.Task.pile result.below) result.from result.table) ≡ raised (meaning (T.Task.pile below)) }
+        ensures pile { ruled (T.Task.pile result.below) result.from result.rule result.listed.items ≡ ruled (T.Task.pile below) result.from rule [] }
+        ensures empty { meaning (ruled (T.Task.pile result.below) result.from result.rule result.listed.items) ≡ raised (meaning (T.Task.pile below)) }
     {
         let from = below.atoms();
+        let listed = ArrayVec::new();
         RuleLayer {
             below,
             from,
-            table: RuleTable::new(rule),
+            rule,
+            listed,
         }
+    }
+
+    // The set with the marks of those listed atoms that are in `marks`.
+    fn mark(&self, set: Atoms, marks: Atoms) -> Atoms
+        ensures { Under self.now.from (has set) → has result ≡ marked self.now.from self.now.listed.items (has set) (has marks) }
+    {
+        let mut marked = set;
+        for (k, p) in self.listed.as_slice().iter().enumerate() {
+            if marks.contains(*p) {
+                marked = marked.insert(self.from.saturating_add(k as u16));
+            }
+        }
+        marked
+    }
+
+    // Whether `p` is above the last listed atom.
+    fn rises_to(&self, p: u16) -> bool
+        ensures { result ≡ above self.now.listed.items p }
+    {
+        self.listed.as_slice().last().is_none_or(|last| *last < p)
     }
 
     // Why `p` cannot be listed behind the others.
     fn check(&self, p: u16) -> Result<(), Fault>
-        ensures room { is_ok result ≡ true → length (listed self.now.table) < 32 }
-        ensures exact { Built (T.Task.pile self.now.below) → on_ok (λ _. listed self.now.table ++ p ∷ []) result ≡ rule_row (meaning (T.Task.pile self.now.below)) (listed self.now.table) p }
+        ensures room { is_ok result ≡ true → length self.now.listed.items < 32 }
+        ensures exact { on_ok (λ _. self.now.listed.items ++ p ∷ []) result ≡ rule_row (meaning (T.Task.pile self.now.below)) self.now.listed.items p }
     {
         let n = self.below.atoms();
-        let len = self.table.len();
-        if p >= n || !self.table.rises_to(p) {
+        let len = self.listed.len();
+        if p >= n || !self.rises_to(p) {
             return Err(Fault::at_place(Refusal::BadAtom, 0));
         }
         if len >= MOST_ATOMS {
             return Err(Fault::at_place(Refusal::TableFull, 0));
         }
-        if n as usize + len >= MOST_TASK_ATOMS {
+        if usize::from(n) + len >= MOST_TASK_ATOMS {
             return Err(Fault::at_place(Refusal::OverLimit, 0));
         }
         Ok(())
@@ -119,11 +147,11 @@ impl<T: Task> RuleLayer<T> {
     pub fn add(&mut self, p: u16) -> Result<(), Fault>
         ensures below { self.new.below ≡ self.old.below }
         ensures from { self.new.from ≡ self.old.from }
-        ensures rule { self.new.table.rule ≡ self.old.table.rule }
-        ensures added { Added listed (Built (T.Task.pile self.old.below)) (RuleRows (meaning (T.Task.pile self.old.below))) (rule_row (meaning (T.Task.pile self.old.below)) (listed self.old.table) p) self.old.table self.new.table p result }
+        ensures rule { self.new.rule ≡ self.old.rule }
+        ensures added { Added (RuleRows (meaning (T.Task.pile self.old.below))) (rule_row (meaning (T.Task.pile self.old.below)) self.old.listed.items p) self.old.listed.items self.new.listed.items p result }
     {
         self.check(p)?;
-        self.table = self.table.push(p);
+        self.listed.push(p);
         Ok(())
     }
 }

@@ -2,29 +2,18 @@
 use layers::MacroLayer;
 use pad::Bench;
 use planning::{Fault, Join, Refusal};
-use service::{Answer, Call, Order};
+use service::{Call, Order};
 use std::process::Abort;
 use tariffs::{Amount, Bank, Cents};
+use trials::faults::refused;
 
 const CENTS: [u32; 6] = [500, 900, 1200, 300, 250, 0];
 
 // What a call answers: the cents that it credits, which are nought if it credits none.
 type Credit = Result<u64, Fault>;
 
-// What a call is to answer that is refused over a bottom, where every atom first appears at height 0. Like `refused` in the tests
-// of trials, which another crate can't use.
-fn refused(refusal: Refusal, place: usize, atom: u16, missing: u16) -> Credit {
-    Err(Fault {
-        refusal,
-        place,
-        atom,
-        missing,
-        layer: 0,
-    })
-}
-
 fn no_step(place: usize) -> Credit {
-    refused(Refusal::NoStep, place, 0, 0)
+    refused(Refusal::NoStep, place, 0, 0, 0)
 }
 
 // The bench with load-keys and align joined as action 6.
@@ -38,17 +27,8 @@ fn pile() -> MacroLayer<Bench> {
     pile
 }
 
-// What the order's own method answers to a call. The rows hold calls and no closures, so that one that fails is printed.
-fn called(order: &mut Order<MacroLayer<Bench>, Bank<'_>>, call: Call<'_>) -> Credit {
-    match call {
-        Call::Drop(i) => return order.drop(i).map(|credit| credit.value()),
-        Call::Trim => return order.trim().map(|credit| credit.value()),
-        Call::Load(row) => order.load(row)?,
-        Call::Swap(i) => order.swap(i)?,
-        Call::Fold(i, c) => order.fold(i, c)?,
-        Call::Unfold(i) => order.unfold(i)?,
-    }
-    Ok(0)
+fn credited(answer: Result<Option<Cents>, Fault>) -> Credit {
+    answer.map(|credit| credit.map_or(0, |cents| cents.value()))
 }
 
 // With no plan every edit is refused by 16, and the quote is nought.
@@ -64,8 +44,8 @@ fn no_plan(rt: HostRuntime) {
     for call in calls {
         let mut order = Order::open(pile(), Bank::new(&CENTS));
         assert_eq!(rt;
-            called(&mut order, call),
-            refused(Refusal::NoPlan, 0, 0, 0),
+            credited(order.perform(call)),
+            refused(Refusal::NoPlan, 0, 0, 0, 0),
             "{call:?}"
         );
         assert!(rt; order.plan().is_none());
@@ -83,7 +63,11 @@ fn check_rows(rt: &impl Abort, rows: &[Row<'_>]) {
     for (plan, call, answer, after) in rows {
         let mut order = Order::open(pile(), Bank::new(&CENTS));
         assert_eq!(rt; order.load(plan), Ok(()), "{plan:?}");
-        assert_eq!(rt; called(&mut order, *call), *answer, "{plan:?} {call:?}");
+        assert_eq!(rt;
+            credited(order.perform(*call)),
+            *answer,
+            "{plan:?} {call:?}"
+        );
         assert_eq!(rt; order.plan(), Some(*after), "{plan:?} {call:?}");
         assert_eq!(rt; order.close().value(), 2900, "{plan:?} {call:?}");
     }
@@ -91,8 +75,8 @@ fn check_rows(rt: &impl Abort, rows: &[Row<'_>]) {
 
 #[test]
 fn drops(rt: HostRuntime) {
-    let early = refused(Refusal::NotApplicable, 1, 0, 1);
-    let unsealed = refused(Refusal::GoalNotMet, 4, 3, 1);
+    let early = refused(Refusal::NotApplicable, 1, 0, 1, 0);
+    let unsealed = refused(Refusal::GoalNotMet, 4, 3, 1, 0);
     check_rows(
         &rt,
         &[
@@ -107,7 +91,7 @@ fn drops(rt: HostRuntime) {
 
 #[test]
 fn swaps(rt: HostRuntime) {
-    let early = refused(Refusal::NotApplicable, 1, 0, 1);
+    let early = refused(Refusal::NotApplicable, 1, 0, 1, 0);
     check_rows(
         &rt,
         &[
@@ -121,9 +105,9 @@ fn swaps(rt: HostRuntime) {
 
 #[test]
 fn folds(rt: HostRuntime) {
-    let unknown = refused(Refusal::UnknownAction, 2, 0, 0);
-    let others = refused(Refusal::NotTheParts, 1, 0, 0);
-    let whole = refused(Refusal::NotTheParts, 3, 0, 0);
+    let unknown = refused(Refusal::UnknownAction, 2, 0, 0, 0);
+    let others = refused(Refusal::NotTheParts, 1, 0, 0, 0);
+    let whole = refused(Refusal::NotTheParts, 3, 0, 0, 0);
     let folded: &[u16] = &[0, 6, 3];
     check_rows(
         &rt,
@@ -169,19 +153,11 @@ fn too_long(rt: HostRuntime) {
     assert_eq!(rt; order.quote().value(), 129400);
 }
 
-fn answered(answer: Answer<Cents>) -> Credit {
-    match answer {
-        Answer::Done => Ok(0),
-        Answer::Credit(credit) => Ok(credit.value()),
-        Answer::Refused(fault) => Err(fault),
-    }
-}
-
 // Calls in a row, with their answers and the quote afterwards. With no room for all answers nothing is done.
 #[test]
 fn calls_in_a_row(rt: HostRuntime) {
     let calls = [Call::Load(&[0, 4, 1, 2, 3]), Call::Swap(9), Call::Trim];
-    let mut answers = [Answer::Done; 3];
+    let mut answers = [Ok(None); 3];
     let mut order = Order::open(pile(), Bank::new(&CENTS));
     assert!(rt; order.carry_out(&calls, &mut answers[0..2]).is_err());
     assert!(rt; order.plan().is_none());
@@ -191,5 +167,5 @@ fn calls_in_a_row(rt: HostRuntime) {
             .map(|quote| quote.value()),
         Ok(2900)
     );
-    assert_eq!(rt; answers.map(answered), [Ok(0), no_step(9), Ok(250)]);
+    assert_eq!(rt; answers.map(credited), [Ok(0), no_step(9), Ok(250)]);
 }

@@ -4,6 +4,7 @@ ghost use Rattle.planning.specs.Sets.{◌∪◌};
 ghost use Rattle.planning.specs.Piles.{bare};
 ghost use Rattle.planning.specs.Verdicts.{judged};
 ghost use Rattle.pad.specs.Bench.{bench, bench_row, action_name, atom_name};
+ghost use Rattle.pad.specs.Grounded.{bench_bottom};
 
 use atoms::Atoms;
 use planning::Fault;
@@ -48,6 +49,8 @@ fn sets(a: u16) -> (Atoms, Atoms, Atoms)
 impl Task for Bench {
     ghost pile = { λ _. bare bench };
 
+    ghost built = { λ _. bench_bottom };
+
     fn atoms(&self) -> u16 {
         ATOMS
     }
@@ -78,13 +81,11 @@ impl Task for Bench {
     }
 
     fn base_steps(&self, a: u16) -> BaseSteps {
-        if a < ACTIONS {
-            BaseSteps::one(a)
-        } else {
-            BaseSteps::none()
-        }
+        BaseSteps::alone(a, ACTIONS)
     }
 
+    // This and the two below as of any bottom: a trait of bottoms, with a struct that makes a task of one, would ask the five questions
+    // above once more to save these three answers.
     fn parts(&self, a: u16) -> Option<(u16, u16)> {
         None
     }
@@ -99,7 +100,7 @@ impl Task for Bench {
 }
 
 impl Bench {
-    // The verdict on a plan, whatever the plan is.
+    // What `judge` promises of the bench: a task that is there, so that the promise is not empty.
     pub fn judge(self, plan: &[u16]) -> Result<(), Fault>
         ensures { result ≡ judged bench plan.now }
     {

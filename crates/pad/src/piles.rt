@@ -20,7 +20,8 @@ pub fn judge_ruled(rule: Rule, p: u16, plan: &[u16]) -> Result<(), Fault>
     judge(&layer, plan)
 }
 
-// The verdict on a plan over the bench with a macro; with none, if the row is refused.
+// The verdict on a plan over the bench with a macro; with none, if the row is refused. A function of its own: a trait over both
+// sorts of layer would need a member for the row, for the rows' task and for `add`, to save one of these two.
 pub fn judge_joined(row: Join, plan: &[u16]) -> Result<(), Fault>
     ensures { result ≡ judged (macro_task bench (result_unwrap_or (macro_row bench [] row) [])) plan.now }
 {

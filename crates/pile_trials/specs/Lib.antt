@@ -1,2 +1,4 @@
 pub mod Tall
 pub mod Wide
+pub mod Grounded
+pub mod Stacked

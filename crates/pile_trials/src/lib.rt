@@ -1,6 +1,7 @@
-// A bottom of any number of actions, for trials, and tests in tables over layers and piles of them.
+// A bottom of any number of actions and a pile of any height, for trials, and tests in tables over layers and piles.
 #![tactic(auto)]
 
+pub mod tall;
 #[cfg(test)]
 mod tests;
 pub mod wide;

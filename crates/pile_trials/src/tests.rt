@@ -8,7 +8,6 @@ mod piles;
 mod rule_rows;
 mod rules;
 mod same;
-mod tall;
 mod wide;
 
 use atoms::Atoms;
@@ -19,24 +18,7 @@ use std::fmt::Display;
 use std::process::Abort;
 use tasks::judge;
 use tasks::task::Task;
-
-// What a plan or a row is to get that is refused. Like `refused` in the tests of trials, which another crate can't use, but for the
-// layer.
-fn refused(
-    refusal: Refusal,
-    place: usize,
-    atom: u16,
-    missing: u16,
-    layer: u8,
-) -> Result<(), Fault> {
-    Err(Fault {
-        refusal,
-        place,
-        atom,
-        missing,
-        layer,
-    })
-}
+use trials::faults::refused;
 
 // What a row is to get whose refusal fills no other field.
 fn row_refused(refusal: Refusal) -> Result<(), Fault> {

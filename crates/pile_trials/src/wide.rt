@@ -2,6 +2,7 @@ ghost use Rattle.std.specs.Prelude.{◌≡◌, ◌≤◌, min};
 ghost use Rattle.planning.specs.Piles.{bare};
 ghost use Rattle.planning.specs.Verdicts.{judged};
 ghost use Rattle.pile_trials.specs.Wide.{wide};
+ghost use Rattle.pile_trials.specs.Grounded.{wide_bottom};
 
 use atoms::Atoms;
 use planning::Fault;
@@ -30,7 +31,7 @@ impl Wide {
         }
     }
 
-    // The verdict on a plan, whatever the plan is.
+    // What `judge` promises of this task: a task that is there, so that the promise is not empty.
     pub fn judge(self, plan: &[u16]) -> Result<(), Fault>
         ensures { result ≡ judged (wide self.actions) plan.now }
     {
@@ -40,6 +41,8 @@ impl Wide {
 
 impl Task for Wide {
     ghost pile = { λ s. bare (wide s.actions) };
+
+    ghost built = { λ s. wide_bottom s.actions s.few };
 
     fn atoms(&self) -> u16 {
         ATOMS
@@ -71,13 +74,11 @@ impl Task for Wide {
     }
 
     fn base_steps(&self, a: u16) -> BaseSteps {
-        if a < self.actions {
-            BaseSteps::one(a)
-        } else {
-            BaseSteps::none()
-        }
+        BaseSteps::alone(a, self.actions)
     }
 
+    // This and the two below as of any bottom: a trait of bottoms, with a struct that makes a task of one, would ask the five questions
+    // above once more to save these three answers.
     fn parts(&self, a: u16) -> Option<(u16, u16)> {
         None
     }

@@ -1,7 +1,7 @@
 -- How many numbers below a limit are in a set, and which is the lowest and the greatest.
-use Rattle.std.proofs.Common.{◌≡◌, ℕ, zero, suc, ◌+◌, ◌<◌, ◌≤◌, Bool, true, false, cond, T, ◌⊎◌, is_some, Some, None, Option, sym, refl, ap, ◌∙◌, subst, ap₂, inl, inr, ⊎_elim, add-zero, add_assoc, add-suc, arith, MatchOption}
+use Rattle.std.proofs.Common.{◌≡◌, ℕ, zero, suc, ◌+◌, ◌<◌, ◌≤◌, Bool, true, false, cond, T, is_some, Some, None, Option, sym, refl, ap, ◌∙◌, ap₂, ⊎_elim, add-zero, add_assoc, add-suc, arith, MatchOption}
 use Rattle.std.specs.Option.{option_or}
-use Rattle.std.proofs.lemmas.Bool.{cases_lt, cond_both, true≢false}
+use Rattle.std.proofs.lemmas.Bool.{cases_lt, cases_order, cond_both}
 use Rattle.planning.specs.Sets.{AtomSet, Under, count, lowest, greatest}
 
 pub count_same : (f g : AtomSet) (n : ℕ) → ((k : ℕ) → k < n → f k ≡ g k) → count f n ≡ count g n
@@ -25,21 +25,43 @@ unfolding count
 count_low f zero = omega arith
 count_low f (suc n) = ap (λ x. x + cond (f (suc n)) 1 0) (count_low f n) ∙ add_assoc _ _ _
 
-pub lowest_none : (f : AtomSet) (n : ℕ) → ((k : ℕ) → k < n → f k ≡ false) → lowest f n ≡ None
+-- o is the lowest number of the set below n, if there is one
+abbrev pub Lowest : AtomSet → ℕ → Option ℕ → Type 0
+Lowest f n o = MatchOption o ((k : ℕ) → k < n → f k ≡ false) (λ p. (p < n) × (f p ≡ true) × ((k : ℕ) → k < p → f k ≡ false))
+
+pub lowest_tells : (f : AtomSet) (n : ℕ) → Lowest f n (lowest f n)
 unfolding lowest
-lowest_none f zero h = refl
-lowest_none f (suc n) h = ap₂ (λ o b. option_or o (cond b (Some n) None)) (lowest_none f n (λ k l. h k (omega arith))) (h n (omega arith))
+lowest_tells f zero = λ k l. absurd (omega arith)
+lowest_tells f (suc n) = go (lowest f n) (lowest_tells f n) (f n) refl
+  where
+    go : (o : Option ℕ) → Lowest f n o → (b : Bool) → f n ≡ b → Lowest f (suc n) (option_or o (cond b (Some n) None))
+    go (Some p) h b e = (omega (arith, h.0), h.1, h.2)
+    go None h true e = (omega arith, e, h)
+    go None h false e = λ k l. ⊎_elim (h k) (λ m. let s : k ≡ n = omega arith in cc) (cases_lt k n)
+
+lowest_is : (f : AtomSet) (n : ℕ) (o o' : Option ℕ) → Lowest f n o → Lowest f n o' → o ≡ o'
+lowest_is f n None None h k = refl
+lowest_is f n None (Some q) h k = absurd (cc (h q k.0))
+lowest_is f n (Some p) None h k = absurd (cc (k p h.0))
+lowest_is f n (Some p) (Some q) h k = ap Some (⊎_elim (λ e. e) (⊎_elim (λ l. absurd (cc (k.2 p l))) (λ l. absurd (cc (h.2 q l)))) (cases_order p q))
+
+pub lowest_none : (f : AtomSet) (n : ℕ) → ((k : ℕ) → k < n → f k ≡ false) → lowest f n ≡ None
+lowest_none f n h = lowest_is f n (lowest f n) None (lowest_tells f n) h
 
 pub lowest_some : (f : AtomSet) (n p : ℕ) → p < n → f p ≡ true → ((k : ℕ) → k < p → f k ≡ false) → lowest f n ≡ Some p
-unfolding lowest
-lowest_some f zero p l t h = absurd (omega arith)
-lowest_some f (suc n) p l t h = go (λ m. lowest_some f n p m t h) (cases_lt p n)
+lowest_some f n p l t h = lowest_is f n (lowest f n) (Some p) (lowest_tells f n) (l, t, h)
+
+-- what holds of none, where there is none, and of the lowest holds of what `lowest` answers
+pub lowest_elim : (f : AtomSet) (n : ℕ) (P : Option ℕ → Type 0) → (((k : ℕ) → k < n → f k ≡ false) → P None)
+    → ((p : ℕ) → p < n → f p ≡ true → ((k : ℕ) → k < p → f k ≡ false) → P (Some p)) → P (lowest f n)
+lowest_elim f n P none some = go (lowest f n) (lowest_tells f n)
   where
-    go : (p < n → lowest f n ≡ Some p) → (p < n) ⊎ (n ≤ p) → lowest f (suc n) ≡ Some p
-    go before (inl m) = ap (λ o. option_or o (cond (f n) (Some n) None)) (before m)
-    go before (inr m) =
-        let e : n ≡ p = omega arith in
-        ap₂ (λ o b. option_or o (cond b (Some n) None)) (lowest_none f n (λ k q. h k (omega arith))) (ap f e ∙ t) ∙ ap Some e
+    go : (o : Option ℕ) → Lowest f n o → P o
+    go None h = none h
+    go (Some p) h = some p h.0 h.1 h.2
+
+pub lowest_empty : (f : AtomSet) (n : ℕ) → is_some (lowest f n) ≡ false → (k : ℕ) → k < n → f k ≡ false
+lowest_empty f n = lowest_elim f n (λ o. is_some o ≡ false → (k : ℕ) → k < n → f k ≡ false) (λ h e. h) (λ p l t u e. absurd cc)
 
 pub greatest_none : (f : AtomSet) (n : ℕ) → ((k : ℕ) → k < n → f k ≡ false) → greatest f n ≡ None
 unfolding greatest
@@ -49,38 +71,14 @@ greatest_none f (suc n) h = ap₂ (λ b o. cond b (Some n) o) (h n (omega arith)
 pub greatest_some : (f : AtomSet) (n p : ℕ) → p < n → f p ≡ true → ((k : ℕ) → p < k → k < n → f k ≡ false) → greatest f n ≡ Some p
 unfolding greatest
 greatest_some f zero p l t h = absurd (omega arith)
-greatest_some f (suc n) p l t h = go (λ m. greatest_some f n p m t (λ k q r. h k q (omega arith))) (cases_lt p n)
-  where
-    go : (p < n → greatest f n ≡ Some p) → (p < n) ⊎ (n ≤ p) → greatest f (suc n) ≡ Some p
-    go before (inl m) = ap₂ (λ b o. cond b (Some n) o) (h n m (omega arith)) (before m)
-    go before (inr m) = let e : n ≡ p = omega arith in ap (λ b. cond b (Some n) (greatest f n)) (ap f e ∙ t) ∙ ap Some e
-
--- what `lowest` says of each number below n
-pub lowest_tells : (f : AtomSet) (n : ℕ) → MatchOption (lowest f n) ((k : ℕ) → k < n → f k ≡ false) (λ p. (p < n) × (f p ≡ true) × ((k : ℕ) → k < p → f k ≡ false))
-unfolding lowest
-lowest_tells f zero = λ k l. absurd (omega arith)
-lowest_tells f (suc n) = go (lowest f n) (lowest_tells f n) (f n) refl
-  where
-    go : (o : Option ℕ) → MatchOption o ((k : ℕ) → k < n → f k ≡ false) (λ p. (p < n) × (f p ≡ true) × ((k : ℕ) → k < p → f k ≡ false)) → (b : Bool) → f n ≡ b
-        → MatchOption (option_or o (cond b (Some n) None)) ((k : ℕ) → k < suc n → f k ≡ false) (λ p. (p < suc n) × (f p ≡ true) × ((k : ℕ) → k < p → f k ≡ false))
-    go (Some p) h b e = (omega (arith, h.0), h.1, h.2)
-    go None h true e = (omega arith, e, h)
-    go None h false e = λ k l. ⊎_elim (h k) (λ m. let s : k ≡ n = omega arith in ap f s ∙ e) (cases_lt k n)
-
-pub lowest_empty : (f : AtomSet) (n : ℕ) → is_some (lowest f n) ≡ false → (k : ℕ) → k < n → f k ≡ false
-lowest_empty f n e = go (lowest f n) (lowest_tells f n) e
-  where
-    go : (o : Option ℕ) → MatchOption o ((k : ℕ) → k < n → f k ≡ false) (λ p. (p < n) × (f p ≡ true) × ((k : ℕ) → k < p → f k ≡ false)) → is_some o ≡ false → (k : ℕ) → k < n → f k ≡ false
-    go None h e = h
-    go (Some p) h e = absurd (true≢false e)
+greatest_some f (suc n) p l t h = ⊎_elim
+    (λ m. ap₂ (λ b o. cond b (Some n) o) (h n m (omega arith)) (greatest_some f n p m t (λ k q r. h k q (omega arith))))
+    (λ m. let e : n ≡ p = omega arith in ap (λ b. cond b (Some n) (greatest f n)) (ap f e ∙ t) ∙ ap Some e)
+    (cases_lt p n)
 
 -- what a set has below its own limit is all that it has
 pub under_false : (f : AtomSet) (n k : ℕ) → Under n f → n ≤ k → f k ≡ false
-under_false f n k u l = go (f k) refl
-  where
-    go : (b : Bool) → f k ≡ b → f k ≡ false
-    go true e = absurd (let h : k < n = u k (subst T (sym e) tt) in omega arith)
-    go false e = e
+under_false f n k u l = let h : T (f k) → k < n = u k in grind arith
 
 -- what changes no more from n on
 settled : {X : Type 0} (g : ℕ → X) (n m : ℕ) → ((k : ℕ) → n ≤ k → g (suc k) ≡ g k) → n ≤ m → g m ≡ g n
@@ -94,11 +92,7 @@ pub count_under : (f : AtomSet) (n m : ℕ) → Under n f → n ≤ m → count 
 unfolding count
 count_under f n m u = settled (count f) n m (λ k l. ap (λ b. count f k + cond b 1 0) (under_false f n k u l) ∙ add-zero (count f k))
 
-or_none : (o : Option ℕ) → option_or o None ≡ o
-or_none None = refl
-or_none (Some p) = refl
-
 pub lowest_under : (f : AtomSet) (n m : ℕ) → Under n f → n ≤ m → lowest f m ≡ lowest f n
 unfolding lowest
 lowest_under f n m u =
-    settled (lowest f) n m (λ k l. ap (λ b. option_or (lowest f k) (cond b (Some k) None)) (under_false f n k u l) ∙ or_none (lowest f k))
+    settled (lowest f) n m (λ k l. ap (λ b. option_or (lowest f k) (cond b (Some k) None)) (under_false f n k u l) ∙ grind arith)

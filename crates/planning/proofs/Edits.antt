@@ -1,7 +1,7 @@
 -- An accepted edit: the new plan has at most 256 steps and solves the task, and is worth what did not leave.
-use Rattle.std.proofs.Common.{◌≡◌, ℕ, zero, suc, ◌+◌, ◌-◌, ◌<◌, ◌≤◌, Bool, true, false, cond, eqb, ltb, leb, List, [], ◌∷◌, ◌++◌, length, get_or, take, drop, is_ok, Some, None, Ok, Err, Option, sym, refl, ap, ◌∙◌, subst, append_assoc, arith}
+use Rattle.std.proofs.Common.{◌≡◌, ℕ, zero, suc, ◌+◌, ◌-◌, ◌<◌, ◌≤◌, Bool, true, false, cond, ltb, List, [], ◌∷◌, ◌++◌, length, get_or, take, drop, is_ok, Some, None, Ok, Err, Option, sym, refl, ap, ◌∙◌, subst, append_assoc, arith}
 use Rattle.std.proofs.lemmas.List.{drop_more}
-use Rattle.std.proofs.lemmas.Bool.{and_parts, ltb-true, leb-true, eqb-true, false≢true}
+use Rattle.std.proofs.lemmas.Bool.Decides.{nat_tests}
 use Rattle.planning.specs.Tasks.{Task, Lawful, Solves}
 use Rattle.planning.specs.Amounts.{Amounts, total}
 use Rattle.planning.specs.Places.{action_at}
@@ -10,10 +10,10 @@ use Rattle.planning.specs.Verdicts.{Verdict, and_then, judged}
 use Rattle.planning.specs.Edits.{Edited, splice, without, tried, is_place, are_places, dropped, swapped, are_parts, folded, opened, unfolded}
 use Rattle.planning.specs.Orders.{charge}
 use Rattle.planning.specs.declared.fault.Fault.{Fault}
-use Rattle.planning.specs.declared.refusal.Refusal.TheVariants.{TooManySteps, UnknownAction, NoStep, NotTheParts}
+use Rattle.planning.specs.declared.refusal.Refusal.TheVariants.{TooManySteps}
 use Rattle.planning.proofs.Verdicts.{judged_decides}
 use Rattle.planning.proofs.Charges.{charge_cons}
-use Rattle.planning.proofs.Trims.{cut_one, splice_worth}
+use Rattle.planning.proofs.Trims.{cut_one, nothing_gone, splice_worth}
 
 action_index : (plan : List ℕ) (i : ℕ) → 0 < i → get_or plan (i - 1) 0 ≡ action_at plan i
 action_index plan zero l = absurd (omega arith)
@@ -42,32 +42,25 @@ module _ (t : Task) (law : Lawful t) where
   tried_is x new = go (ltb 256 (length x)) (judged t x) refl
     where
       go : (b : Bool) (v : Verdict) → judged t x ≡ v → and_then (cond b (Err (at_place TooManySteps 257)) v) (λ _. Ok x) ≡ Ok new → Fine new × (x ≡ new)
-      go true v e f = let z : ◌≡◌ {A = ℕ} 0 1 = cc in absurd (omega arith)
+      go true v e f = absurd cc
       go false (Ok u) e f = let same : x ≡ new = cc in (subst Fine same ((judged_decides t law x).0 (ap is_ok e)), same)
-      go false (Err y) e f = let z : ◌≡◌ {A = ℕ} 0 1 = cc in absurd (omega arith)
+      go false (Err y) e f = absurd cc
 
-  test_is : (b : Bool) (x : Edited) (f : Fault) (new : List ℕ) → cond b x (Err f) ≡ Ok new → (b ≡ true) × (x ≡ Ok new)
-  test_is true x f new e = (refl, e)
-  test_is false x f new e = let z : ◌≡◌ {A = ℕ} 0 1 = cc in absurd (omega arith)
+  -- a test that has been passed
+  passed : (b : Bool) (x : Edited) (f : Fault) (new : List ℕ) → cond b x (Err f) ≡ Ok new → (b ≡ true) × (x ≡ Ok new)
+  passed b x f new e = grind arith
 
   pub place_of : (plan : List ℕ) (i : ℕ) → is_place plan i ≡ true → (0 < i) × (i ≤ length plan)
-  place_of plan i e = let h = and_parts (ltb 0 i) (leb i (length plan)) e in (ltb-true 0 i h.0, leb-true i (length plan) h.1)
+  place_of plan i e = grind (arith, nat_tests)
 
   pub places_of : (plan : List ℕ) (i : ℕ) → are_places plan i ≡ true → (0 < i) × (i < length plan)
-  places_of plan i e = let h = and_parts (ltb 0 i) (ltb i (length plan)) e in (ltb-true 0 i h.0, ltb-true i (length plan) h.1)
+  places_of plan i e = grind (arith, nat_tests)
 
   pub parts_of : (o : Option (ℕ × ℕ)) (a b : ℕ) → are_parts o a b ≡ true → o ≡ Some (a, b)
-  parts_of None a b h = absurd (false≢true h)
-  parts_of (Some w) a b h =
-      let e = and_parts (eqb w.0 a) (eqb w.1 b) h in
-      let x : w.0 ≡ a = eqb-true w.0 a e.0 in
-      let y : w.1 ≡ b = eqb-true w.1 b e.1 in
-      λ i. Some (x i, y i)
+  parts_of None a b h = absurd cc
+  parts_of (Some w) a b h = grind (arith, nat_tests)
 
   module _ {A : Type 0} (am : Amounts A) (price : ℕ → A) where
-    same_worth : (x y : A) → x ≡ y → x ≡ am.join y am.nought
-    same_worth x y e = e ∙ sym (am.comm y am.nought ∙ am.unit y)
-
     swap_worth : (a b : ℕ) → charge am price t (a ∷ b ∷ []) ≡ charge am price t (b ∷ a ∷ [])
     swap_worth a b =
         charge_cons am price t a (b ∷ []) ∙ am.comm (charge am price t (a ∷ [])) (charge am price t (b ∷ [])) ∙ sym (charge_cons am price t b (a ∷ []))
@@ -85,7 +78,7 @@ module _ (t : Task) (law : Lawful t) where
 
     pub drop_leaves : (plan new : List ℕ) (i : ℕ) → dropped t plan i ≡ Ok new → Leaves plan new (action_at plan i ∷ [])
     drop_leaves plan new i e =
-        let h = test_is (is_place plan i) (tried t (without plan i)) (at_place NoStep i) new e in
+        let h = passed _ _ _ _ e in
         let l = place_of plan i h.0 in
         taken plan (without plan i) new (action_at plan i ∷ []) h.1
         (splice_worth t law am price plan (i - 1) 1 (action_at plan i ∷ []) [] (action_at plan i ∷ []) (at_place_is plan i l.0 l.1) (sym (am.unit (charge am price t (action_at plan i ∷ [])))))
@@ -94,34 +87,31 @@ module _ (t : Task) (law : Lawful t) where
     swap_leaves plan new i e =
         let a = action_at plan i in
         let b = action_at plan (suc i) in
-        let x = splice plan (i - 1) 2 (b ∷ a ∷ []) in
-        let h = test_is (are_places plan i) (tried t x) (at_place NoStep i) new e in
+        let h = passed _ _ _ _ e in
         let l = places_of plan i h.0 in
-        taken plan x new [] h.1
-        (splice_worth t law am price plan (i - 1) 2 (a ∷ b ∷ []) (b ∷ a ∷ []) [] (at_places_are plan i l.0 l.1) (same_worth (charge am price t (a ∷ b ∷ [])) (charge am price t (b ∷ a ∷ [])) (swap_worth a b)))
+        taken plan (splice plan (i - 1) 2 (b ∷ a ∷ [])) new [] h.1
+        (splice_worth t law am price plan (i - 1) 2 (a ∷ b ∷ []) (b ∷ a ∷ []) [] (at_places_are plan i l.0 l.1) (swap_worth a b ∙ nothing_gone t law am price (charge am price t (b ∷ a ∷ []))))
 
     pub fold_leaves : (plan new : List ℕ) (i d : ℕ) → folded t plan i d ≡ Ok new → Leaves plan new []
     fold_leaves plan new i d e =
         let a = action_at plan i in
         let b = action_at plan (suc i) in
-        let x = splice plan (i - 1) 2 (d ∷ []) in
-        let h = test_is (are_places plan i) (cond (ltb d t.actions) (cond (are_parts (t.parts d) a b) (tried t x) (Err (at_place NotTheParts i))) (Err (at_place UnknownAction i))) (at_place NoStep i) new e in
-        let g = test_is (ltb d t.actions) (cond (are_parts (t.parts d) a b) (tried t x) (Err (at_place NotTheParts i))) (at_place UnknownAction i) new h.1 in
-        let k = test_is (are_parts (t.parts d) a b) (tried t x) (at_place NotTheParts i) new g.1 in
+        let h = passed _ _ _ _ e in
+        let k = passed _ _ _ _ (passed _ _ _ _ h.1).1 in
         let l = places_of plan i h.0 in
-        taken plan x new [] k.1
+        taken plan (splice plan (i - 1) 2 (d ∷ [])) new [] k.1
         (splice_worth t law am price plan (i - 1) 2 (a ∷ b ∷ []) (d ∷ []) [] (at_places_are plan i l.0 l.1)
-        (same_worth (charge am price t (a ∷ b ∷ [])) (charge am price t (d ∷ [])) (parts_worth a b d (parts_of (t.parts d) a b k.0))))
+        (parts_worth a b d (parts_of (t.parts d) a b k.0) ∙ nothing_gone t law am price (charge am price t (d ∷ []))))
 
     opened_leaves : (plan new : List ℕ) (i : ℕ) (o : Option (ℕ × ℕ)) → 0 < i → i ≤ length plan → t.parts (action_at plan i) ≡ o → opened t plan i o ≡ Ok new → Leaves plan new []
-    opened_leaves plan new i None l m e f = let z : ◌≡◌ {A = ℕ} 0 1 = cc in absurd (omega arith)
+    opened_leaves plan new i None l m e f = absurd cc
     opened_leaves plan new i (Some v) l m e f =
         taken plan (splice plan (i - 1) 1 (v.0 ∷ v.1 ∷ [])) new [] f
         (splice_worth t law am price plan (i - 1) 1 (action_at plan i ∷ []) (v.0 ∷ v.1 ∷ []) [] (at_place_is plan i l m)
-        (same_worth (charge am price t (action_at plan i ∷ [])) (charge am price t (v.0 ∷ v.1 ∷ [])) (sym (parts_worth v.0 v.1 (action_at plan i) e))))
+        (sym (parts_worth v.0 v.1 (action_at plan i) e) ∙ nothing_gone t law am price (charge am price t (v.0 ∷ v.1 ∷ []))))
 
     pub unfold_leaves : (plan new : List ℕ) (i : ℕ) → unfolded t plan i ≡ Ok new → Leaves plan new []
     unfold_leaves plan new i e =
-        let h = test_is (is_place plan i) (opened t plan i (t.parts (action_at plan i))) (at_place NoStep i) new e in
+        let h = passed _ _ _ _ e in
         let l = place_of plan i h.0 in
         opened_leaves plan new i (t.parts (action_at plan i)) l.0 l.1 refl h.1

@@ -1,18 +1,18 @@
 -- A fold or unfold of a macro of the topmost layer never breaks a plan: it is refused for its form only.
-use Rattle.std.proofs.Common.{◌≡◌, ℕ, suc, ◌+◌, ◌-◌, ◌<◌, ◌≤◌, Bool, true, false, cond, ltb, List, [], ◌∷◌, ◌++◌, length, get_or, take, drop, is_ok, Some, None, Ok, Err, Option, sym, refl, ap, ◌∙◌, subst, ap₂, inl, inr, ⊎_elim, append_assoc, arith}
+use Rattle.std.proofs.Common.{◌≡◌, ℕ, suc, ◌+◌, ◌-◌, ◌<◌, ◌≤◌, true, ltb, List, [], ◌∷◌, ◌++◌, length, get_or, take, drop, is_ok, Some, None, Ok, Err, Option, sym, refl, ap, ◌∙◌, subst, ap₂, inl, inr, ⊎_elim, append_assoc, arith}
 use Rattle.std.proofs.ByRecursion.{All-append, All-take, All-drop}
-use Rattle.std.proofs.lemmas.Bool.{cases_lt, ltb-false, false≢true}
+use Rattle.std.proofs.lemmas.Bool.{cases_lt, cond_both, ltb-false}
+use Rattle.std.proofs.lemmas.Bool.Decides.{nat_tests}
+use Rattle.std.proofs.lemmas.Option.{some_pair_parts}
 use Rattle.planning.specs.Tasks.{Task, Lawful, Solves}
-use Rattle.planning.specs.Faults.{at_place}
 use Rattle.planning.specs.Places.{action_at}
 use Rattle.planning.specs.Macros.{blank, macro_task, unfolded as both, spread}
-use Rattle.planning.specs.Rows.{RowFits, MacroRows}
+use Rattle.planning.specs.Rows.{MacroRows}
 use Rattle.planning.specs.Verdicts.{Verdict, and_then, judged}
 use Rattle.planning.specs.Edits.{splice, tried, is_place, are_places, are_parts, folded, opened, unfolded, OnlyForm}
 use Rattle.planning.specs.Piles.{Known}
 use Rattle.planning.specs.declared.join.Join.{Join}
-use Rattle.planning.specs.declared.refusal.Refusal.TheVariants.{TooManySteps, UnknownAction, NoStep, NotTheParts}
-use Rattle.planning.proofs.Macros.{by_row_old, by_row_new, some_pair, row_fits, spread_iff, macro_lawful}
+use Rattle.planning.proofs.Macros.{row_fits, spread_iff, macro_lawful}
 use Rattle.planning.proofs.Plans.{reaches_known}
 use Rattle.planning.proofs.Edits.{at_place_is, at_places_are, place_of, places_of, parts_of}
 use Rattle.planning.proofs.Verdicts.{judged_decides}
@@ -42,20 +42,15 @@ module _ (t : Task) (law : Lawful t) (rows : List Join) (fit : MacroRows t rows)
       here : c < t.actions + length rows → Joins a b c
       here k =
           let w : Join = get_or rows (c - t.actions) blank in
-          let ok : RowFits t w = row_fits t rows fit (c - t.actions) (omega arith) in
-          let same = some_pair w.first w.second a b (sym (by_row_new t.actions rows t.parts (λ w. Some (w.first, w.second)) None c l k) ∙ e) in
-          record {
-            first = subst (λ x. x < t.actions) same.0 ok.first_known;
-            second = subst (λ x. x < t.actions) same.1 ok.second_known;
-            known = k;
-            writes = by_row_new t.actions rows (λ c. c ∷ []) (λ w. w.first ∷ w.second ∷ []) (c ∷ []) c l k ∙ ap₂ (λ x y. x ∷ y ∷ []) same.0 same.1;
-          }
+          let ok = row_fits t rows fit (c - t.actions) (omega arith) in
+          let same = some_pair_parts w.first a w.second b (grind (arith, nat_tests)) in
+          record { first = rw (← same.0) ok.first_known; second = rw (← same.1) ok.second_known; known = k; writes = grind (arith, nat_tests, same.0, same.1) }
 
       there : t.actions + length rows ≤ c → Joins a b c
-      there k = let none = lawful.parts_unknown c k in let z : ◌≡◌ {A = ℕ} 0 1 = cc in absurd (omega arith)
+      there k = let none = lawful.parts_unknown c k in absurd cc
 
   alone : (a : ℕ) → a < t.actions → both t.actions rows a ≡ a ∷ []
-  alone a l = by_row_old t.actions rows (λ c. c ∷ []) (λ w. w.first ∷ w.second ∷ []) (a ∷ []) a l
+  alone a l = grind (arith, nat_tests)
 
   -- with the macro, and with its parts
   abbrev one_for : List ℕ → ℕ → List ℕ → List ℕ
@@ -78,12 +73,13 @@ module _ (t : Task) (law : Lawful t) (rows : List Join) (fit : MacroRows t rows)
 
   -- an edited plan that solves the task, unless it is too long
   tried_form : (x : List ℕ) → Solves top x → OnlyForm (tried top x)
-  tried_form x h = go (ltb 256 (length x)) refl (judged top x) refl
+  tried_form x h = cond_both (ltb 256 (length x)) _ _ (λ v. OnlyForm (and_then v (λ _. Ok x)))
+      (λ e. inr (inr (inr (inr refl))))
+      (λ e. accepted (judged top x) ((judged_decides top lawful x).1 (ltb-false 256 (length x) e, h)))
     where
-      go : (b : Bool) → ltb 256 (length x) ≡ b → (v : Verdict) → judged top x ≡ v → OnlyForm (and_then (cond b (Err (at_place TooManySteps 257)) v) (λ _. Ok x))
-      go true e v f = inr (inr (inr (inr refl)))
-      go false e (Ok u) f = tt
-      go false e (Err y) f = absurd (false≢true (sym (ap is_ok f) ∙ (judged_decides top lawful x).1 (ltb-false 256 (length x) e, h)))
+      accepted : (v : Verdict) → is_ok v ≡ true → OnlyForm (and_then v (λ _. Ok x))
+      accepted (Ok u) f = tt
+      accepted (Err y) f = absurd cc
 
   module _ (plan : List ℕ) (h : Solves top plan) where
     known : Known top plan
@@ -113,25 +109,22 @@ module _ (t : Task) (law : Lawful t) (rows : List Join) (fit : MacroRows t rows)
         (ap (spread t.actions rows) (at_place_is plan i l m) ∙ same_spread pre post a b c j) h
 
     pub fold_form : (i c : ℕ) → t.actions ≤ c → OnlyForm (folded top plan i c)
-    fold_form i c low =
-        go (are_places plan i) refl (ltb c top.actions) (are_parts (top.parts c) (action_at plan i) (action_at plan (suc i))) refl
-      where
-        go : (x : Bool) → are_places plan i ≡ x → (y z : Bool) → are_parts (top.parts c) (action_at plan i) (action_at plan (suc i)) ≡ z
-            → OnlyForm (cond x (cond y (cond z (tried top (splice plan (i - 1) 2 (c ∷ []))) (Err (at_place NotTheParts i))) (Err (at_place UnknownAction i))) (Err (at_place NoStep i)))
-        go false e y z f = inr (inl refl)
-        go true e false z f = inr (inr (inl refl))
-        go true e true false f = inr (inr (inr (inl refl)))
-        go true e true true f =
-            let p = places_of top lawful plan i e in
-            let j = joins (action_at plan i) (action_at plan (suc i)) c low (parts_of top lawful (top.parts c) (action_at plan i) (action_at plan (suc i)) f) in
-            tried_form (splice plan (i - 1) 2 (c ∷ [])) (fold_solves i c p.0 p.1 j)
+    fold_form i c low = cond_both (are_places plan i) _ _ OnlyForm
+        (λ e. cond_both (ltb c top.actions) _ _ OnlyForm
+        (λ d. cond_both (are_parts (top.parts c) (action_at plan i) (action_at plan (suc i))) _ _ OnlyForm
+        (λ f.
+        let p = places_of top lawful plan i e in
+        let j = joins (action_at plan i) (action_at plan (suc i)) c low (parts_of top lawful (top.parts c) (action_at plan i) (action_at plan (suc i)) f) in
+        tried_form (splice plan (i - 1) 2 (c ∷ [])) (fold_solves i c p.0 p.1 j))
+        (λ f. inr (inr (inr (inl refl)))))
+        (λ d. inr (inr (inl refl))))
+        (λ e. inr (inl refl))
 
     pub unfold_form : (i : ℕ) → t.actions ≤ action_at plan i → OnlyForm (unfolded top plan i)
-    unfold_form i low = go (is_place plan i) refl (top.parts (action_at plan i)) refl
+    unfold_form i low = cond_both (is_place plan i) _ _ OnlyForm (λ e. opens e (top.parts (action_at plan i)) refl) (λ e. inr (inl refl))
       where
-        go : (x : Bool) → is_place plan i ≡ x → (o : Option (ℕ × ℕ)) → top.parts (action_at plan i) ≡ o → OnlyForm (cond x (opened top plan i o) (Err (at_place NoStep i)))
-        go false e o f = inr (inl refl)
-        go true e None f = inr (inr (inr (inl refl)))
-        go true e (Some w) f =
+        opens : is_place plan i ≡ true → (o : Option (ℕ × ℕ)) → top.parts (action_at plan i) ≡ o → OnlyForm (opened top plan i o)
+        opens e None f = inr (inr (inr (inl refl)))
+        opens e (Some w) f =
             let p = place_of top lawful plan i e in
             tried_form (splice plan (i - 1) 1 (w.0 ∷ w.1 ∷ [])) (unfold_solves i w.0 w.1 p.0 p.1 (joins w.0 w.1 (action_at plan i) low f))

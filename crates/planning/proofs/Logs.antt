@@ -1,9 +1,9 @@
 -- A run of calls, one call after the other.
-use Rattle.std.proofs.Common.{◌≡◌, ℕ, ◌+◌, ◌<◌, List, [], ◌∷◌, ◌++◌, reverse, None, length, get_or, take, set, sym, refl, ap, ◌∙◌, subst, ap₂, arith}
+use Rattle.std.proofs.Common.{◌≡◌, ℕ, ◌+◌, ◌<◌, List, [], ◌∷◌, ◌++◌, reverse, length, get_or, take, set, sym, refl, ap, ◌∙◌, subst, ap₂, arith}
 use Rattle.std.proofs.lemmas.List.{reverse-append, take_more, take_more_set, length-take-le}
 use Rattle.planning.specs.Amounts.{Amounts}
 use Rattle.planning.specs.Orders.{Held}
-use Rattle.planning.specs.Runs.{Call, Answer, Log, answered, log_of, performed, Run, RunFrom}
+use Rattle.planning.specs.Runs.{Call, Answer, Log, answered, log_of, performed, RunFrom}
 use Rattle.planning.specs.Tasks.{Task}
 
 module _ {A : Type 0} where
@@ -29,11 +29,6 @@ module _ {A : Type 0} where
         → RunFrom am price t first (log_of (take (i + 1) calls) (take (i + 1) (set answers i a))) held
     run_more first before held calls answers i blank a l m r e =
         subst (λ (log : Log A). RunFrom am price t first log held) (sym (log_more calls answers i blank a l m)) (before, r, e)
-
-    -- on an order that held no plan at first
-    pub run_none : (log : Log A) (held : Held) → RunFrom am price t None log held → Run am price t log held
-    run_none [] held r = r
-    run_none (e ∷ log) held r = (r.0, run_none log r.0 r.1, r.2)
 
   answered_all : (calls : List Call) (answers : List (Answer A)) → answered (take (length calls) calls) (take (length calls) answers) ≡ answered calls answers
   answered_all [] answers = refl

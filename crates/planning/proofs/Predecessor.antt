@@ -1,30 +1,22 @@
 -- The marks of a predecessor layer say what its rule says.
-use Rattle.std.proofs.Common.{◌≡◌, ℕ, zero, suc, ◌<◌, ◌≤◌, Bool, true, false, cond, not, ◌&&◌, ◌||◌, T, ◌↔◌, List, [], ◌∷◌, length, get_or, take, sym, refl, subst, arith, eqb→eq}
+use Rattle.std.proofs.Common.{◌≡◌, ℕ, zero, suc, ◌<◌, ◌≤◌, Bool, cond, not, T, ◌↔◌, List, [], ◌∷◌, length, get_or, take, sym, refl, subst, arith, eqb→eq}
 use Rattle.planning.specs.Sets.{AtomSet}
 use Rattle.planning.specs.Tasks.{Task, after, finally, Reaches, Solves, Lawful}
 use Rattle.planning.specs.Places.{action_at, state_before}
 use Rattle.planning.specs.Rules.{Listed, Achieves, UsesFromStart, PredecessorRule}
 use Rattle.planning.specs.Marks.{is_kind, predecessor_marks, mark_task}
 use Rattle.planning.proofs.Marked.{next, Watch, marks_split, OfKnown}
-use Rattle.planning.proofs.Carried.{step, Carried, Placed, placed, provides, achieves}
+use Rattle.planning.proofs.Carried.{step, shift, in_front, Carried, Placed, placed, provides, achieves}
 use Rattle.planning.proofs.Successor.{same_kind}
 
 -- what holds at a use and was added by no action has held all along
-back_one : (t : Task) (a q : ℕ) (s : AtomSet) → T (after t a s q) → (T (t.adds a q) → ⊥) → T (s q)
-back_one t a q s h f = grind arith
-
-back_state : (t : Task) (q : ℕ) (s : AtomSet) (r : List ℕ) → T (finally t s r q) → ((k : ℕ) → k < length r → T (t.adds (step r k) q) → ⊥) → T (s q)
-back_state t q s [] h f = h
-back_state t q s (a ∷ r) h f = back_one t a q s (back_state t q (after t a s) r h (λ k l. f (suc k) (omega arith))) (f 0 (omega arith))
-
 held_since : (t : Task) (q : ℕ) (s : AtomSet) (r : List ℕ) (j : ℕ) → Reaches t s r → j < length r → T (t.needs (step r j) q)
     → ((k : ℕ) → k < j → T (t.adds (step r k) q) → ⊥) → (k : ℕ) → k ≤ j → T (finally t s (take k r) q)
-held_since t q s [] j h l n f k m = absurd (omega arith)
-held_since t q s (a ∷ r) zero h l n f zero m = h.1 q n
-held_since t q s (a ∷ r) zero h l n f (suc k) m = absurd (omega arith)
-held_since t q s (a ∷ r) (suc j) h l n f zero m =
-    back_one t a q s (held_since t q (after t a s) r j h.2 (omega arith) n (λ k l. f (suc k) (omega arith)) 0 (omega arith)) (f 0 (omega arith))
-held_since t q s (a ∷ r) (suc j) h l n f (suc k) m = held_since t q (after t a s) r j h.2 (omega arith) n (λ k l. f (suc k) (omega arith)) k (omega arith)
+held_since t q s [] j h l n f = λ k m. absurd (omega arith)
+held_since t q s (a ∷ r) zero h l n f = in_front (λ k. T (finally t s (take k (a ∷ r)) q)) 0 (h.1 q n) (λ k m. absurd (omega arith))
+held_since t q s (a ∷ r) (suc j) h l n f =
+    let later = held_since t q (after t a s) r j h.2 (omega arith) n (λ k m. f (suc k) (omega arith)) in
+    in_front (λ k. T (finally t s (take k (a ∷ r)) q)) (suc j) (grind (arith, later 0 (omega arith), f 0 (omega arith))) (λ k m. later k (omega arith))
 
 module _ (t : Task) (o1 o2 : ℕ) (strict : Bool) where
   -- an action of kind o2 uses the atom only while the mark holds
@@ -35,10 +27,7 @@ module _ (t : Task) (o1 o2 : ℕ) (strict : Bool) where
   End c = Unit {0}
 
   mark_next : (a q : ℕ) (c : Bool) → next (predecessor_marks t o1 o2 strict) a q c ≡ cond (t.adds a q) (is_kind t a o1) c
-  mark_next a q c = at (t.adds a q) (is_kind t a o1) c
-    where
-      at : (x k c : Bool) → ((c && not (not k && x)) || (k && x)) ≡ cond x k c
-      at x k c = grind arith
+  mark_next a q c = grind arith
 
   watched : (q : ℕ) (c : Bool) (r : List ℕ)
       → Watch (predecessor_marks t o1 o2 strict) q c r ↔ Carried t q (λ a. is_kind t a o1) Use End c r
@@ -46,28 +35,16 @@ module _ (t : Task) (o1 o2 : ℕ) (strict : Bool) where
   watched q c (a ∷ r) =
       let ih = watched q (cond (t.adds a q) (is_kind t a o1) c) r in (
         λ w. (
-          λ n k. w.0 (both (is_kind t a o2) (t.needs a q) k n),
+          λ n k. w.0 (grind arith),
           ih.0 (subst (λ (b : Bool). Watch (predecessor_marks t o1 o2 strict) q b r) (mark_next a q c) w.1),
         ),
         λ w. (
-          λ n. w.0 (right (is_kind t a o2) (t.needs a q) n) (left (is_kind t a o2) (t.needs a q) n),
+          λ n. w.0 (grind arith) (grind arith),
           subst (λ (b : Bool). Watch (predecessor_marks t o1 o2 strict) q b r) (sym (mark_next a q c)) (ih.1 w.1),
         ),
       )
-    where
-      both : (x y : Bool) → T x → T y → T (x && y)
-      both x y h k = grind arith
-
-      left : (x y : Bool) → T (x && y) → T x
-      left x y h = grind arith
-
-      right : (x y : Bool) → T (x && y) → T y
-      right x y h = grind arith
 
   module _ (listed plan : List ℕ) (law : Lawful t) where
-    strict_not : (b : Bool) → T b → T (not b) → ⊥
-    strict_not b h k = grind arith
-
     rule_from : ((k : ℕ) → k < length listed → Watch (predecessor_marks t o1 o2 strict) (get_or listed k 0) (not strict) plan)
         → PredecessorRule t o1 o2 strict listed plan
     rule_from w = record { served = served; fresh = fresh }
@@ -86,8 +63,9 @@ module _ (t : Task) (o1 o2 : ℕ) (strict : Bool) where
         fresh st p zero l u = absurd (omega (arith, u.from_one))
         fresh st p (suc j) l u =
             let v = subst (UsesFromStart t plan (suc j)) (sym l.2) u in
-            λ e. strict_not strict st ((spot l.0 l.1).first j (omega (arith, v.within)) v.needed (λ k m. v.unadded (suc k) (omega arith) (omega arith))
-            (same_kind (t.kind (step plan j)) o2 e))
+            λ e. let k : T (not strict) = (spot l.0 l.1).first j (omega (arith, v.within)) v.needed (λ k m. v.unadded (suc k) (omega arith) (omega arith))
+            (same_kind (t.kind (step plan j)) o2 e) in
+            grind arith
 
     marks_from : Solves t plan → PredecessorRule t o1 o2 strict listed plan
         → (k : ℕ) → k < length listed → Watch (predecessor_marks t o1 o2 strict) (get_or listed k 0) (not strict) plan
@@ -96,8 +74,9 @@ module _ (t : Task) (o1 o2 : ℕ) (strict : Bool) where
         ((placed t (get_or listed k 0) (λ a. is_kind t a o1) Use End (not strict) plan).1
         (record {
           pairs = λ i j a e. same_kind (t.kind (step plan i)) o1 (rule.served (get_or listed k 0) (suc i) (suc j) (k, l, refl) (achieves t plan i j (get_or listed k 0) a) (eqb→eq (t.kind (step plan j)) o2 e));
-          first = λ j m n f e. unstrict strict (λ st. rule.fresh st (get_or listed k 0) (suc j) (k, l, refl) (uses (get_or listed k 0) j m n f)
-              (eqb→eq (t.kind (step plan j)) o2 e));
+          first = λ j m n f e.
+              let never : T strict → ⊥ = λ st. rule.fresh st (get_or listed k 0) (suc j) (k, l, refl) (uses (get_or listed k 0) j m n f) (eqb→eq (t.kind (step plan j)) o2 e) in
+              grind arith;
           last = λ i a. tt;
           never = λ f. tt;
         }))
@@ -106,16 +85,10 @@ module _ (t : Task) (o1 o2 : ℕ) (strict : Bool) where
         uses q j m n f = record { from_one = omega arith; within = omega arith; needed = n; held = held; unadded = unadded }
           where
             held : (k : ℕ) → 1 ≤ k → k ≤ suc j → T (state_before t plan k q)
-            held zero x y = absurd (omega arith)
-            held (suc k) x y = held_since t q t.initial plan j h m n f k (omega arith)
+            held = shift (λ k. T (state_before t plan k q)) 0 (suc j) (λ k x y. held_since t q t.initial plan j h m n f k (omega arith))
 
             unadded : (k : ℕ) → 1 ≤ k → k < suc j → T (t.adds (action_at plan k) q) → ⊥
-            unadded zero x y = absurd (omega arith)
-            unadded (suc k) x y = f k (omega arith)
-
-        unstrict : (b : Bool) → (T b → ⊥) → T (not b)
-        unstrict true f = f tt
-        unstrict false f = tt
+            unadded k x y = shift (λ k. T (t.adds (action_at plan k) q) → ⊥) 0 j (λ k z. f k) k x (omega arith)
 
     pub predecessor_iff : Solves (mark_task t listed (predecessor_marks t o1 o2 strict)) plan ↔ (Solves t plan × PredecessorRule t o1 o2 strict listed plan)
     predecessor_iff =
@@ -124,10 +97,7 @@ module _ (t : Task) (o1 o2 : ℕ) (strict : Bool) where
 
 pub predecessor_known : (t : Task) (o1 o2 : ℕ) (strict : Bool) → Lawful t → OfKnown t (predecessor_marks t o1 o2 strict)
 predecessor_known t o1 o2 strict law = record {
-  needs = λ a q h. law.needs_known a q (right (is_kind t a o2) (t.needs a q) h);
-  deletes = λ a q h. law.adds_known a q (right (not (is_kind t a o1)) (t.adds a q) h);
-  adds = λ a q h. law.adds_known a q (right (is_kind t a o1) (t.adds a q) h);
+  needs = λ a q h. law.needs_known a q (grind arith);
+  deletes = λ a q h. law.adds_known a q (grind arith);
+  adds = λ a q h. law.adds_known a q (grind arith);
 }
-  where
-    right : (x y : Bool) → T (x && y) → T y
-    right x y h = grind arith

@@ -1,6 +1,6 @@
 -- The marks of a successor layer say what its rule says.
-use Rattle.std.proofs.Common.{◌≡◌, ℕ, zero, suc, ◌<◌, Bool, true, false, cond, not, ◌&&◌, ◌||◌, T, eqb, ◌↔◌, List, [], ◌∷◌, length, get_or, sym, refl, subst, arith, eqb→eq}
-use lib.Dec.{eqb_refl}
+use Rattle.std.proofs.Common.{◌≡◌, ℕ, zero, suc, ◌<◌, Bool, true, false, cond, not, ◌&&◌, T, eqb, ◌↔◌, List, [], ◌∷◌, length, get_or, sym, refl, subst, arith, eqb→eq}
+use Rattle.std.proofs.lemmas.Bool.Decides.{nat_tests}
 use Rattle.planning.specs.Sets.{AtomSet}
 use Rattle.planning.specs.Tasks.{Task, after, finally, Reaches, Solves, Lawful}
 use Rattle.planning.specs.Places.{action_at}
@@ -10,7 +10,7 @@ use Rattle.planning.proofs.Marked.{next, Watch, marks_split, OfKnown}
 use Rattle.planning.proofs.Carried.{step, Carried, Placed, placed, provides, achieves, ends, last_adds}
 
 pub same_kind : (a b : ℕ) → a ≡ b → T (eqb a b)
-same_kind a b e = subst (λ (x : ℕ). T (eqb a x)) e (eqb_refl a)
+same_kind a b e = grind (arith, nat_tests)
 
 module _ (t : Task) (o1 o2 : ℕ) (strict : Bool) where
   one : ℕ → Bool
@@ -25,55 +25,28 @@ module _ (t : Task) (o1 o2 : ℕ) (strict : Bool) where
 
   mark_next : (a q : ℕ) (s : AtomSet) (c : Bool)
       → next (successor_marks t o1 o2 strict) a q (not (s q && c)) ≡ not (after t a s q && cond (t.adds a q) (is_kind t a o1) c)
-  mark_next a q s c = at (t.adds a q) (t.deletes a q) (is_kind t a o1) (s q) c
-    where
-      at : (x d k v c : Bool) → ((not (v && c) && not (k && x)) || ((not k && x) || (d && not x))) ≡ not (((v && not d) || x) && cond x k c)
-      at x d k v c = grind arith
+  mark_next a q s c = grind arith
 
   -- the mark holds unless the atom does and was last added by kind o1
   watched : (q : ℕ) (s : AtomSet) (c : Bool) (r : List ℕ) → Reaches t s r
       → Watch (successor_marks t o1 o2 strict) q (not (s q && c)) r ↔ Carried t q (λ a. is_kind t a o1) Use (End (finally t s r q)) c r
   watched q s c [] h =
-      (λ f st v k. out (s q) c (f st) v k, λ f st. into (s q) c (f st))
-    where
-      out : (v c : Bool) → T (not (v && c)) → T v → T c → ⊥
-      out v c f g h = grind arith
-
-      into : (v c : Bool) → (T v → T c → ⊥) → T (not (v && c))
-      into true true f = f tt tt
-      into true false f = tt
-      into false c f = tt
+      (λ f st v k. grind (arith, f st), λ f st. grind (arith, f st))
   watched q s c (a ∷ r) h =
       let ih = watched q (after t a s) (cond (t.adds a q) (is_kind t a o1) c) r h.2 in (
         λ w. (
-          λ n k. out (t.needs a q) (is_kind t a o2) (s q) c (h.1 q n) w.0 n k,
+          λ n k. grind (arith, h.1 q n, w.0),
           ih.0 (subst (λ (b : Bool). Watch (successor_marks t o1 o2 strict) q b r) (mark_next a q s c) w.1),
         ),
         λ w. (
-          λ n. into (t.needs a q) (is_kind t a o2) (s q) c w.0 n,
+          λ n. grind (arith, w.0),
           subst (λ (b : Bool). Watch (successor_marks t o1 o2 strict) q b r) (sym (mark_next a q s c)) (ih.1 w.1),
         ),
       )
-    where
-      out : (n k v c : Bool) → T v → (T (not k && n) → T (not (v && c))) → T n → T c → T k
-      out n true v c g f x y = tt
-      out true false true true g f x y = f tt
-      out true false true false g f x y = y
-      out true false false c g f x y = g
-      out false false v c g f x y = x
-
-      into : (n k v c : Bool) → (T n → T c → T k) → T (not k && n) → T (not (v && c))
-      into true true v c f x = absurd x
-      into true false true true f x = f tt tt
-      into true false true false f x = tt
-      into true false false c f x = tt
-      into false true v c f x = absurd x
-      into false false v c f x = absurd x
 
   module _ (listed plan : List ℕ) (law : Lawful t) where
     start : (v : Bool) → not (v && false) ≡ true
-    start true = refl
-    start false = refl
+    start v = grind arith
 
     rule_from : Solves t plan → ((k : ℕ) → k < length listed → Watch (successor_marks t o1 o2 strict) (get_or listed k 0) true plan)
         → SuccessorRule t o1 o2 strict listed plan
@@ -119,13 +92,7 @@ module _ (t : Task) (o1 o2 : ℕ) (strict : Bool) where
 
 pub successor_known : (t : Task) (o1 o2 : ℕ) (strict : Bool) → Lawful t → OfKnown t (successor_marks t o1 o2 strict)
 successor_known t o1 o2 strict law = record {
-  needs = λ a q h. law.needs_known a q (right (not (is_kind t a o2)) (t.needs a q) h);
-  deletes = λ a q h. law.adds_known a q (right (is_kind t a o1) (t.adds a q) h);
-  adds = λ a q h. either a (t.adds a q) (not (is_kind t a o1)) (t.deletes a q) (not (t.adds a q)) (law.adds_known a q) (law.deletes_known a q) h;
+  needs = λ a q h. law.needs_known a q (grind arith);
+  deletes = λ a q h. law.adds_known a q (grind arith);
+  adds = λ a q h. grind (arith, law.adds_known a q, law.deletes_known a q);
 }
-  where
-    right : (x y : Bool) → T (x && y) → T y
-    right x y h = grind arith
-
-    either : (a : ℕ) (x y z w : Bool) → (T x → a < t.actions) → (T z → a < t.actions) → T ((y && x) || (z && w)) → a < t.actions
-    either a x y z w f g h = grind arith

@@ -1,15 +1,14 @@
 -- The three points of the term hold of every run over a sound pile: one invariant, and one lemma for each call.
-use Rattle.std.proofs.Common.{◌≡◌, ℕ, ◌+◌, ◌-◌, ◌<◌, ◌≤◌, cond, T, eqb, List, [], ◌∷◌, length, take, drop, is_ok, Some, None, Ok, Err, Option, sym, refl, ap, ◌∙◌, subst, arith}
+use Rattle.std.proofs.Common.{◌≡◌, ℕ, ◌+◌, ◌-◌, ◌<◌, ◌≤◌, Bool, cond, T, eqb, List, [], ◌∷◌, length, take, drop, is_ok, Some, None, Ok, Err, Option, sym, refl, ap, ◌∙◌, subst, arith}
 use Rattle.std.specs.List.{flat_map}
 use Rattle.std.proofs.ByRecursion.{All-append, All-take, All-drop}
-use Rattle.std.proofs.lemmas.Bool.{false≢true}
 use Rattle.planning.specs.Tasks.{Task}
 use Rattle.planning.specs.Amounts.{Amounts, total}
 use Rattle.planning.specs.Places.{action_at}
 use Rattle.planning.specs.Faults.{at_place}
 use Rattle.planning.specs.Verdicts.{Verdict, judged}
 use Rattle.planning.specs.Edits.{Edited, dropped, swapped, folded, unfolded}
-use Rattle.planning.specs.Trims.{left_out, trimmed}
+use Rattle.planning.specs.Trims.{Spare, left_out, trimmed}
 use Rattle.planning.specs.Orders.{Held, loaded, taken_or, taken, charge, quoted}
 use Rattle.planning.specs.Piles.{Pile, meaning, written, Known, Good, Sound}
 use Rattle.planning.specs.Runs.{Call, load_row, drop_step, swap_steps, fold_steps, unfold_step, trim_plan, Answer, done, credit, refused, Log, said, is_accepted, is_trim, performed, Run, last_loaded, credits_since, trimmed_last, times, LoadExact, LoadsExact, TrimsAccepted, Kept, Term, QuotedTerm}
@@ -17,7 +16,7 @@ use Rattle.planning.specs.declared.fault.Fault.{Fault}
 use Rattle.planning.specs.declared.refusal.Refusal.TheVariants.{NoPlan}
 use Rattle.planning.proofs.Plans.{reaches_known}
 use Rattle.planning.proofs.Verdicts.{judged_decides}
-use Rattle.planning.proofs.Trims.{Spare, trim_solves, trim_shorter, trim_spare, trim_worth}
+use Rattle.planning.proofs.Trims.{nothing_gone, trim_solves, trim_shorter, trim_spare, trim_worth}
 use Rattle.planning.proofs.Edits.{Fine, Leaves, drop_leaves, swap_leaves, fold_leaves, unfold_leaves}
 
 -- counting is an amount too
@@ -48,27 +47,33 @@ module _ {A : Type 0} (am : Amounts A) (price : ℕ → A) (p : Pile) (s : Sound
   abbrev t : Task
   t = meaning p
 
-  -- what holds of the plan held, beside the plan last loaded
-  record Own (log : Log A) (row plan : List ℕ) : Type 0 where
+  -- what holds of the plan held, beside the plan last loaded, the credits since, and whether the last accepted call was a trim
+  record Own (credits : A) (trims : Bool) (row plan : List ℕ) : Type 0 where
     fine : Fine t s.lawful plan
     row_known : Known t row
     fewer : (x : ℕ) → times x (flat_map t.base_steps plan) ≤ times x (flat_map t.base_steps row)
-    charged : charge am price t row ≡ am.join (charge am price t plan) (credits_since am log)
-    least : T (trimmed_last log) → Spare t s.lawful plan
+    charged : charge am price t row ≡ am.join (charge am price t plan) credits
+    least : T trims → Spare t plan
+
+  abbrev Owned : Log A → List ℕ → List ℕ → Type 0
+  Owned log = Own (credits_since am log) (trimmed_last log)
 
   record Inv (log : Log A) (held : Held) : Type 0 where
     loads : LoadsExact am price p log
     trims : TrimsAccepted am price p log
     nothing : last_loaded am log ≡ None → held ≡ None
-    something : (row : List ℕ) → last_loaded am log ≡ Some row → (plan : List ℕ) × (held ≡ Some plan) × Own log row plan
+    something : (row : List ℕ) → last_loaded am log ≡ Some row → (plan : List ℕ) × (held ≡ Some plan) × Owned log row plan
 
   start : Inv [] None
   start = record {
     loads = tt;
     trims = tt;
     nothing = λ e. refl;
-    something = λ row e. let z : ◌≡◌ {A = ℕ} 0 1 = cc in absurd (omega arith);
+    something = λ row e. absurd cc;
   }
+
+  owned : (log : Log A) (held : Held) (row plan : List ℕ) → Inv log held → last_loaded am log ≡ Some row → held ≡ Some plan → Owned log row plan
+  owned log held row plan inv e h = let own = inv.something row e in subst (Owned log row) (cc (own.1, h)) own.2
 
   -- a refused call
   unmoved : (log : Log A) (c : Call) (f : Fault) (held : Held) → Inv log held
@@ -79,19 +84,7 @@ module _ {A : Type 0} (am : Amounts A) (price : ℕ → A) (p : Pile) (s : Sound
     loads = (load, inv.loads);
     trims = (trim, inv.trims);
     nothing = λ e. inv.nothing (sym x ∙ e);
-    something = λ row e.
-        let h = inv.something row (sym x ∙ e) in
-        let own = h.2 in (
-          h.0,
-          h.1,
-          record {
-            fine = own.fine;
-            row_known = own.row_known;
-            fewer = own.fewer;
-            charged = own.charged ∙ ap (am.join (charge am price t h.0)) (sym y);
-            least = own.least;
-          },
-        );
+    something = λ row e. rw y (inv.something row (sym x ∙ e));
   }
 
   loads_row : (log : Log A) (held : Held) (row : List ℕ) → Inv log held → (v : Verdict) → judged t row ≡ v
@@ -102,23 +95,23 @@ module _ {A : Type 0} (am : Amounts A) (price : ℕ → A) (p : Pile) (s : Sound
       record {
         loads = ((λ l m. (λ x. (s.faithful row m).0 h.1, λ x. tt)), inv.loads);
         trims = ((λ x. absurd x), inv.trims);
-        nothing = λ x. let z : ◌≡◌ {A = ℕ} 0 1 = cc in absurd (omega arith);
+        nothing = λ x. absurd cc;
         something = λ r x.
             let same : row ≡ r = cc in (
               row,
               refl,
-              subst (λ (r : List ℕ). Own ((load_row row, done) ∷ log) r row) same (record {
+              subst (λ (r : List ℕ). Owned ((load_row row, done) ∷ log) r row) same (record {
                 fine = h;
                 row_known = known;
                 fewer = λ x. omega arith;
-                charged = sym (am.comm (charge am price t row) am.nought ∙ am.unit (charge am price t row));
+                charged = nothing_gone t s.lawful am price (charge am price t row);
                 least = λ x. absurd x;
               }),
             );
       }
   loads_row log held row inv (Err f) e =
       unmoved log (load_row row) f held inv refl refl
-      (λ l m. (λ x. absurd x, λ g. absurd (false≢true (sym (ap is_ok e) ∙ (judged_decides t s.lawful row).1 (l, (s.faithful row m).1 g)))))
+      (λ l m. (λ x. absurd x, λ g. let ok = (judged_decides t s.lawful row).1 (l, (s.faithful row m).1 g) in absurd (cc (ap is_ok e))))
       (λ x. absurd x)
 
   -- an accepted call on the plan held
@@ -126,18 +119,15 @@ module _ {A : Type 0} (am : Amounts A) (price : ℕ → A) (p : Pile) (s : Sound
       → last_loaded am ((c, a) ∷ log) ≡ last_loaded am log → credits_since am ((c, a) ∷ log) ≡ am.join (charge am price t gone) (credits_since am log)
       → T (is_accepted a) → LoadExact am price p c a → (T (trimmed_last ((c, a) ∷ log)) → T (is_trim c))
       → (Fine t s.lawful plan → Leaves t s.lawful am price plan new gone) → ((x : ℕ) → Fine t s.lawful plan → Leaves t s.lawful counting (one_for x) plan new gone)
-      → (Fine t s.lawful plan → T (is_trim c) → Spare t s.lawful new) → Inv ((c, a) ∷ log) (Some new)
+      → (Fine t s.lawful plan → T (is_trim c) → Spare t new) → Inv ((c, a) ∷ log) (Some new)
   moved log plan new gone c a inv x y ok load last worth counts spare = record {
     loads = (load, inv.loads);
     trims = ((λ z row e. ok), inv.trims);
-    nothing = λ e. let h = inv.nothing (sym x ∙ e) in let z : ◌≡◌ {A = ℕ} 0 1 = cc in absurd (omega arith);
-    something = λ row e.
-        let h = inv.something row (sym x ∙ e) in
-        let same : h.0 ≡ plan = cc h.1 in
-        (new, refl, next row (subst (Own log row) same h.2));
+    nothing = λ e. let h = inv.nothing (sym x ∙ e) in absurd cc;
+    something = λ row e. (new, refl, next row (owned log (Some plan) row plan inv (sym x ∙ e) refl));
   }
     where
-      next : (row : List ℕ) → Own log row plan → Own ((c, a) ∷ log) row new
+      next : (row : List ℕ) → Owned log row plan → Owned ((c, a) ∷ log) row new
       next row own =
           let out = worth own.fine in
           record {
@@ -193,7 +183,7 @@ module _ {A : Type 0} (am : Amounts A) (price : ℕ → A) (p : Pile) (s : Sound
       → credits_since am ((c, refused (at_place NoPlan 0)) ∷ log) ≡ credits_since am log → LoadExact am price p c (refused (at_place NoPlan 0))
       → Inv ((c, refused (at_place NoPlan 0)) ∷ log) None
   no_plan log c inv x y load = unmoved log c (at_place NoPlan 0) None inv x y load
-      (λ z row e. let h = inv.something row e in let k = h.1 in let q : ◌≡◌ {A = ℕ} 0 1 = cc in absurd (omega arith))
+      (λ z row e. let h = inv.something row e in let k = h.1 in absurd cc)
 
   step_holds : (log : Log A) (held : Held) (c : Call) → Inv log held
       → Inv ((c, (performed am price t held c).0) ∷ log) (performed am price t held c).1
@@ -231,7 +221,7 @@ module _ {A : Type 0} (am : Amounts A) (price : ℕ → A) (p : Pile) (s : Sound
       spelled : (plan : List ℕ) → Fine t s.lawful plan → written p plan ≡ flat_map t.base_steps plan
       spelled plan f = s.spelled plan (reaches_known t t.initial plan f.1)
 
-      kept : (row plan : List ℕ) → Own log row plan → Kept am price p log row plan
+      kept : (row plan : List ℕ) → Owned log row plan → Kept am price p log row plan
       kept row plan own =
           let x = spelled plan own.fine in
           let y = s.spelled row own.row_known in
@@ -242,11 +232,9 @@ module _ {A : Type 0} (am : Amounts A) (price : ℕ → A) (p : Pile) (s : Sound
           }
 
       least : Inv log held → (o : Option (List ℕ)) → last_loaded am log ≡ o → T (trimmed_last log) → (plan : List ℕ) → held ≡ Some plan → (i : ℕ) → i < length plan → Good p (left_out plan i) → ⊥
-      least inv None e z plan h i l g = let k = inv.nothing e in let q : ◌≡◌ {A = ℕ} 0 1 = cc in omega arith
+      least inv None e z plan h i l g = let k = inv.nothing e in cc
       least inv (Some row) e z plan h i l g =
-          let own = inv.something row e in
-          let same : own.0 ≡ plan = cc own.1 in
-          let mine = subst (Own log row) same own.2 in
+          let mine = owned log held row plan inv e h in
           mine.least z i l ((s.faithful (left_out plan i) (known_without t plan i (reaches_known t t.initial plan mine.fine.1))).1 g)
 
   pub quoted_term : (log : Log A) (held : Held) (quote : A) → Run am price t log held → quote ≡ quoted am price t held → QuotedTerm am price p log held quote
@@ -254,9 +242,7 @@ module _ {A : Type 0} (am : Amounts A) (price : ℕ → A) (p : Pile) (s : Sound
     term = run_term log held r;
     unloaded_quote = λ e. q ∙ ap (quoted am price t) ((run_holds log held r).nothing e);
     loaded_quote = λ row plan e h.
-        let own = (run_holds log held r).something row e in
-        let same : own.0 ≡ plan = cc (own.1, h) in
-        let mine = subst (Own log row) same own.2 in
+        let mine = owned log held row plan (run_holds log held r) e h in
         let x = s.spelled plan (reaches_known t t.initial plan mine.fine.1) in
         let y = s.spelled row mine.row_known in
         let z : quote ≡ charge am price t plan = q ∙ ap (quoted am price t) h in

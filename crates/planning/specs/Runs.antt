@@ -1,5 +1,5 @@
 -- Runs of calls on an order, and the printed term: what holds after every list of calls.
-use Rattle.std.specs.Prelude.{◌≡◌, ℕ, ◌+◌, ◌<◌, ◌≤◌, Bool, true, false, cond, T, ◌↔◌, List, [], ◌∷◌, reverse, length, Some, None, Ok, Err, Option, Result, ◌==◌}
+use Rattle.std.specs.Prelude.{◌≡◌, ℕ, ◌+◌, ◌<◌, ◌≤◌, Bool, true, false, cond, T, ◌↔◌, List, [], ◌∷◌, reverse, length, Some, None, Ok, Err, Option, ◌==◌}
 use Rattle.planning.specs.Tasks.{Task}
 use Rattle.planning.specs.Amounts.{Amounts, total}
 use Rattle.planning.specs.Orders.{Held, Outcome, load_call, drop_call, swap_call, fold_call, unfold_call, trim_call}
@@ -36,11 +36,6 @@ module _ {A : Type 0} where
   abbrev pub log_of : List Call → List (Answer A) → Log A
   log_of calls answers = reverse (answered calls answers)
 
-  -- an accepted call's answer, or the fault
-  abbrev pub answer_by : {X : Type 0} → (X → Answer A) → Result X Fault → Answer A
-  answer_by answer (Ok x) = answer x
-  answer_by answer (Err f) = refused f
-
   abbrev pub said : {X : Type 0} → (X → Answer A) → Outcome X → Answer A × Held
   said answer (Ok x, held) = (answer x, held)
   said answer (Err f, held) = (refused f, held)
@@ -68,15 +63,14 @@ module _ {A : Type 0} (am : Amounts A) (price : ℕ → A) (t : Task) where
   performed held (unfold_step i) = said (λ _. done) (unfold_call t held i)
   performed held trim_plan = said credit (trim_call am price t held)
 
-  -- the calls were carried out one after the other on an order that held no plan at first
-  abbrev pub Run : Log A → Held → Type 0
-  Run [] held = held ≡ None
-  Run (e ∷ earlier) held = (before : Held) × Run earlier before × (performed before e.0 ≡ (e.1, held))
-
-  -- the same on an order that held `first`
+  -- the calls were carried out one after the other on an order that held `first`
   abbrev pub RunFrom : Held → Log A → Held → Type 0
   RunFrom first [] held = held ≡ first
   RunFrom first (e ∷ earlier) held = (before : Held) × RunFrom first earlier before × (performed before e.0 ≡ (e.1, held))
+
+  -- the same on an order that held no plan at first
+  abbrev pub Run : Log A → Held → Type 0
+  Run = RunFrom None
 
 module _ {A : Type 0} (am : Amounts A) where
   abbrev row_after : Call → Answer A → Option (List ℕ) → Option (List ℕ)

@@ -41,4 +41,4 @@ Spare t plan = (i : ℕ) → i < length plan → Solves t (left_out plan i) → 
 -- what a trim is for: a plan that solves the task still does, and then no step can be left out
 pub record Trims (t : Task) (plan left : List ℕ) : Type 0 where
   pub solves : Solves t plan → Solves t left
-  pub spare : (i : ℕ) → i < length left → Solves t (left_out left i) → ⊥
+  pub spare : Spare t left

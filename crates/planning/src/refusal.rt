@@ -29,6 +29,7 @@ impl Refusal {
     pub fn number(self) -> u8
         ensures { result ≡ number self }
     {
+        // a discriminant is shown to fit; `try_from` would add a case that never comes
         self as u8
     }
 }

@@ -1,4 +1,3 @@
-pub mod Splicing
+mod Rows
 mod Passes
 mod Rounds
-mod Gaps

@@ -1,5 +1,5 @@
 -- A trim under way: what is left of the plan, and the actions that left it so far.
-use Rattle.std.proofs.Common.{◌≡◌, ℕ, zero, suc, ◌<◌, List, [], ◌∷◌, ◌++◌, length, get_or, Some, None, Option, sym, refl, ap, ◌∙◌, subst}
+use Rattle.std.proofs.Common.{◌≡◌, ℕ, zero, suc, ◌<◌, List, [], ◌∷◌, ◌++◌, length, get_or, Some, None, Option, sym, ap, ◌∙◌, subst}
 use Rattle.std.proofs.lemmas.List.{append-nil, append_assoc}
 use Rattle.planning.specs.Tasks.{Task}
 use Rattle.planning.specs.Trims.{left_out, strikable, trim_at, trim_by, trimmed}
@@ -12,9 +12,6 @@ module _ (t : Task) (plan : List ℕ) where
 
   abbrev pub Leads : List ℕ → List ℕ → Type 0
   Leads left gone = Comes (length left) left gone
-
-  pub leads_first : (gone : List ℕ) → gone ≡ [] → Leads plan gone
-  leads_first gone e = (refl, ap (λ (g : List ℕ). g ++ (trimmed t plan).gone) e)
 
   on : (n : ℕ) (left gone : List ℕ) (i : ℕ) → strikable t left ≡ Some i → Comes (suc n) left gone → Comes n (left_out left i) (gone ++ get_or left i 0 ∷ [])
   on n left gone i e h = (

@@ -1,5 +1,4 @@
-mod Editing
-mod Splicing
-mod Trimming
 mod Carrying
+mod Charging
 mod Forms
+mod Trimming

@@ -21,7 +21,7 @@ impl Tariff for Bank<'_> {
     ghost price = { λ s. bank_price s.cents.now };
 
     fn charge(&self, a: u16) -> Cents {
-        Cents::new(row_at(self.cents, a, 0) as u64)
+        Cents::new(u64::from(row_at(self.cents, a, 0)))
     }
 }
 

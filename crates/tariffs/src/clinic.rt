@@ -22,8 +22,8 @@ impl Tariff for Clinic<'_> {
 
     fn charge(&self, a: u16) -> Visits {
         Visits::new(
-            row_at(self.minutes, a, 0) as u32,
-            row_at(self.visits, a, 0) as u32,
+            u32::from(row_at(self.minutes, a, 0)),
+            u32::from(row_at(self.visits, a, 0)),
         )
     }
 }

@@ -4,6 +4,5 @@ ghost use Rattle.std.specs.Prelude.{◌≡◌, slice_index_or};
 pub fn row_at<T: Copy>(row: &[T], a: u16, nought: T) -> T
     ensures { result ≡ slice_index_or row.now a nought }
 {
-    let a = a as usize;
-    if a < row.len() { row[a] } else { nought }
+    row.get(usize::from(a)).copied().unwrap_or(nought)
 }

@@ -1,6 +1,7 @@
 -- What is wanted of a state, action by action from the plan's end.
-use Rattle.std.proofs.Common.{◌≡◌, ℕ, zero, suc, ◌+◌, ◌<◌, ◌↔◌, List, [], ◌∷◌, length, get_or, drop, Some, None, Option, sym, ap, ◌∙◌, subst, MatchOption}
-use Rattle.std.proofs.lemmas.List.{drop_more}
+use Rattle.std.proofs.Common.{◌≡◌, ℕ, zero, suc, ◌+◌, ◌-◌, ◌<◌, ◌↔◌, List, [], ◌∷◌, length, get_or, drop, reverse, arith, Some, None, Option, sym, ap, ◌∙◌, subst, MatchOption}
+use Rattle.std.proofs.lemmas.List.{drop_more, get_or-reverse, length-reverse}
+use Rattle.std.proofs.lemmas.Grind.{get_or_default_zero}
 use Rattle.atoms.specs.Has.{has}
 use Rattle.atoms.specs.declared.Atoms.{Atoms}
 use Rattle.planning.specs.Sets.{AtomSet, ◌⊆◌}
@@ -24,11 +25,27 @@ module _ (t : Task) where
   wanted_more plan i want r h k w =
       subst (λ (x : List ℕ). Wanted t x r) (sym (drop_more plan i 0 h)) (wanted_cons (get_or plan i 0) (drop (i + 1) plan) want r k.0 k.1 w)
 
+  -- one action more, n of them from the plan's end having been gone through
+  pub wanted_turn : (plan : List ℕ) (n a : ℕ) (want : AtomSet) (r : Option Atoms) → (n < length (reverse plan)) × (a ≡ get_or (reverse plan) n a)
+      → Rest t plan want (length plan - n) → WantedBefore t a want r → Wanted t (drop (length plan - (n + 1)) plan) r
+  wanted_turn plan n a want r h k w =
+      let len = length-reverse plan in
+      let inside : n < length plan = omega (arith, h.0) in
+      let i = length plan - (n + 1) in
+      let on : length plan - n ≡ i + 1 = omega arith in
+      let same : length plan - 1 - n ≡ i = omega arith in
+      let here : a ≡ get_or plan i 0 = h.1 ∙ get_or-reverse plan n a inside ∙ ap (λ j. get_or plan j a) same ∙ get_or_default_zero plan i a (omega arith) in
+      wanted_more plan i want r (omega arith) (subst (Rest t plan want) on k) (subst (λ b. WantedBefore t b want r) here w)
+
   -- a plan is possible only if what is left of it is
-  pub possible_drop : (plan : List ℕ) (i : ℕ) → Possible t plan → Possible t (drop i plan)
+  possible_drop : (plan : List ℕ) (i : ℕ) → Possible t plan → Possible t (drop i plan)
   possible_drop plan zero h = h
   possible_drop [] (suc i) h = h
   possible_drop (a ∷ plan) (suc i) h = possible_drop plan i h.1
+
+  -- no state serves what is left, so none serves the plan
+  pub wanted_none : (plan : List ℕ) (i : ℕ) → Wanted t (drop i plan) None → Wanted t plan None
+  wanted_none plan i none h = none (possible_drop plan i h)
 
   pub wanted_decides : (plan : List ℕ) (r : Option Atoms) → Wanted t plan r → (s : AtomSet) → Reaches t s plan ↔ MatchOption r ⊥ (λ w. has w ⊆ s)
   wanted_decides plan None w s = (λ h. w ((regression t s plan).0 h).0, λ h. absurd h)

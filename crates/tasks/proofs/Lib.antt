@@ -1,3 +1,2 @@
 mod Steps
 pub mod Backwards
-pub mod Appends

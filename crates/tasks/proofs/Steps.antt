@@ -1,21 +1,18 @@
 -- A state's missing atoms, counted and named over all 320 numbers or over the task's atoms; and one step of a judgement.
-use Rattle.std.proofs.Common.{◌≡◌, ℕ, ◌+◌, ◌<◌, ◌≤◌, not, ◌&&◌, T, ltb, leb, List, length, get_or, drop, Some, None, Ok, Err, Option, Result, sym, ap, ◌∙◌, subst, arith}
-use Rattle.std.proofs.lemmas.List.{at_drop_more}
-use Rattle.std.proofs.lemmas.Bool.{cond-false, le-ltb, lt-leb}
+use Rattle.std.proofs.Common.{◌≡◌, ℕ, ◌+◌, ◌<◌, ◌≤◌, List, length, get_or, drop, Some, None, Ok, Err, Option, Result, sym, ap, ◌∙◌, subst, ap₂, arith}
+use Rattle.std.proofs.lemmas.List.{at_drop_more, at_drop_all}
+use Rattle.std.proofs.lemmas.Bool.Decides.{nat_tests}
 use Rattle.planning.specs.Sets.{AtomSet, ◌∖◌, Under, count, lowest}
 use Rattle.planning.specs.Tasks.{Task, Lawful, after}
 use Rattle.planning.specs.Verdicts.{Verdict, lacks, lacks_at, lack, and_then, stepped, judged_from}
 use Rattle.planning.specs.declared.fault.Fault.{Fault}
 use Rattle.planning.specs.declared.refusal.Refusal.{Refusal}
-use Rattle.planning.specs.declared.refusal.Refusal.TheVariants.{NotApplicable}
+use Rattle.planning.specs.declared.refusal.Refusal.TheVariants.{NotApplicable, GoalNotMet}
 use Rattle.planning.proofs.Counts.{count_under, lowest_under}
 
 module _ (t : Task) (law : Lawful t) (refusal : Refusal) (place : ℕ) (need state missing : AtomSet) (under : Under t.atoms need) (is : missing ≡ need ∖ state) where
   missing_under : Under t.atoms missing
-  missing_under p h = under p (go (subst (λ (m : AtomSet). T (m p)) is h))
-    where
-      go : T (need p && not (state p)) → T (need p)
-      go h = grind arith
+  missing_under = rw is (λ p h. grind (arith, under p))
 
   lowest_is : (o : Option ℕ) → o ≡ lowest missing 320 → lacks_at t refusal place (need ∖ state) o ≡ lacks t refusal place need state
   lowest_is o e =
@@ -37,11 +34,17 @@ pub step_known : (t : Task) → Lawful t → (place a : ℕ) (state need : AtomS
     → (Under t.atoms need → v ≡ lacks t NotApplicable place need state) → and_then v (λ _. Ok (after t a state)) ≡ stepped t place a state
 step_known t law place a state need v h k is lacking =
     let under : Under t.atoms need = subst (Under t.atoms) (sym is) (law.needs_under a) in
-    ap (λ v. and_then v (λ _. Ok (after t a state))) (lacking under ∙ ap (λ n. lacks t NotApplicable place n state) is)
-    ∙ sym (cond-false (ltb 256 place) _ _ (le-ltb 256 place h) ∙ cond-false (leb t.actions a) _ _ (lt-leb t.actions a k))
+    let held : v ≡ lacks t NotApplicable place (t.needs a) state = lacking under ∙ ap (λ n. lacks t NotApplicable place n state) is in
+    grind (arith, nat_tests)
 
 -- what is left of a plan, by how its first step went
 pub judged_more : (t : Task) (place : ℕ) (state : AtomSet) (plan : List ℕ) (i : ℕ) → i < length plan → (r : Result AtomSet Fault)
     → r ≡ stepped t place (get_or plan i 0) state → and_then r (λ next. judged_from t (place + 1) next (drop (i + 1) plan)) ≡ judged_from t place state (drop i plan)
 judged_more t place state plan i h r e =
     ap (λ r. and_then r (λ next. judged_from t (place + 1) next (drop (i + 1) plan))) e ∙ sym (at_drop_more (judged_from t place state) plan i 0 h)
+
+-- and with no step left, by what its last state lacks of the goal
+pub judged_end : (t : Task) → Lawful t → (place : ℕ) (state goal : AtomSet) (plan : List ℕ) (i : ℕ) (v : Verdict) → length plan ≤ i → place ≡ i + 1 → goal ≡ t.goal
+    → (Under t.atoms goal → v ≡ lacks t GoalNotMet place goal state) → v ≡ judged_from t (i + 1) state (drop i plan)
+judged_end t law place state goal plan i v h e is lacking =
+    lacking (rw is law.goal_under) ∙ ap₂ (λ n goal. lacks t GoalNotMet n goal state) e is ∙ sym (at_drop_all (judged_from t (i + 1) state) plan i h)

@@ -6,11 +6,12 @@ ghost use Rattle.tasks.specs.Answers.{Acts};
 
 use atoms::Atoms;
 
-// The kind that no action has.
+// The kind that no action has. What is answered about an unknown action is no `Option`: a number outside the counts is answered by
+// nothing and by this kind, and the kinds of actions are any other numbers.
 pub const NO_KIND: u16 = 65535;
 
 // What one action is, but for its base steps and parts.
-#[derive(Clone, Copy)]
+#[derive(Clone, Copy, Default)]
 pub struct Action {
     pub needs: Atoms,
     pub deletes: Atoms,

@@ -1,11 +1,9 @@
-ghost use Rattle.std.specs.Prelude.{◌≤◌};
+use arrayvec::ArrayVec;
 
 pub mod ops;
 
 // Up to 8 base steps.
-#[derive(Clone, Copy)]
+#[derive(Drop)]
 pub struct BaseSteps {
-    len: usize,
-    steps: [u16; 8],
-    ghost fits: { len ≤ 8 },
+    steps: ArrayVec<u16, 8>,
 }

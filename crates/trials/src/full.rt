@@ -3,6 +3,7 @@ ghost use Rattle.atoms.specs.Has.{has};
 ghost use Rattle.planning.specs.Piles.{bare};
 ghost use Rattle.planning.specs.Verdicts.{judged};
 ghost use Rattle.trials.specs.Full.{below, full};
+ghost use Rattle.trials.specs.Grounded.{full_bottom};
 
 use atoms::Atoms;
 use planning::Fault;
@@ -26,8 +27,8 @@ pub struct Full {
     ghost known: { kind ≤ 65534 },
 }
 
-// The atoms below `n`.
-fn first(n: u16) -> Atoms
+// The atoms below `n`. A loop and no `fold`, since the clause is its invariant.
+pub fn first(n: u16) -> Atoms
     ensures { n ≤ 320 → has result ≡ below n }
 {
     let mut set = Atoms::empty();
@@ -49,7 +50,7 @@ impl Full {
         }
     }
 
-    // The verdict on a plan, whatever the plan is.
+    // What `judge` promises of this task: a task that is there, so that the promise is not empty.
     pub fn judge(self, plan: &[u16]) -> Result<(), Fault>
         ensures { result ≡ judged (full self.atoms self.kind) plan.now }
     {
@@ -59,6 +60,8 @@ impl Full {
 
 impl Task for Full {
     ghost pile = { λ s. bare (full s.atoms s.kind) };
+
+    ghost built = { λ s. full_bottom s.atoms s.kind s.few s.known };
 
     fn atoms(&self) -> u16 {
         self.atoms
@@ -96,13 +99,11 @@ impl Task for Full {
     }
 
     fn base_steps(&self, a: u16) -> BaseSteps {
-        if a < ACTIONS {
-            BaseSteps::one(a)
-        } else {
-            BaseSteps::none()
-        }
+        BaseSteps::alone(a, ACTIONS)
     }
 
+    // This and the two below as of any bottom: a trait of bottoms, with a struct that makes a task of one, would ask the five questions
+    // above once more to save these three answers.
     fn parts(&self, a: u16) -> Option<(u16, u16)> {
         None
     }

@@ -6,21 +6,11 @@ mod plans;
 mod refusals;
 mod sets;
 
+use crate::faults::refused;
 use atoms::Atoms;
 use planning::{Fault, Refusal};
 use std::fmt::Display;
 use std::process::Abort;
-
-// What a plan or a step is to get that is refused over a bottom, where every atom first appears at height 0.
-fn refused<T>(refusal: Refusal, place: usize, atom: u16, missing: u16) -> Result<T, Fault> {
-    Err(Fault {
-        refusal,
-        place,
-        atom,
-        missing,
-        layer: 0,
-    })
-}
 
 fn set_of(atoms: &[u16]) -> Atoms {
     atoms.iter().fold(Atoms::empty(), |set, p| set.insert(*p))

@@ -1,6 +1,6 @@
 use super::*;
+use crate::tall::Tall;
 use crate::tests::same::check_same;
-use crate::tests::tall::Tall;
 use pad::Bench;
 use std::fmt::Display;
 use std::process::Abort;
@@ -85,7 +85,7 @@ fn heights_to_the_limit(rt: HostRuntime) {
         (255, 255, 255),
     ] {
         let rule = rule(Successor, 0, 1, false);
-        let one = ruled(&rt, Tall(height), rule, &[0]);
+        let one = ruled(&rt, Tall::new(height), rule, &[0]);
         assert_eq!(rt;
             (
                 one.height(),
@@ -107,7 +107,7 @@ fn heights_to_the_limit(rt: HostRuntime) {
             (last, next, last, 0),
             "two rules over {height}"
         );
-        let macros = MacroLayer::new(MacroLayer::new(Tall(height)));
+        let macros = MacroLayer::new(MacroLayer::new(Tall::new(height)));
         assert_eq!(rt; macros.height(), last, "two macro layers over {height}");
     }
 }

@@ -2,6 +2,7 @@
 use super::*;
 use std::fmt::Display;
 use std::process::Abort;
+use trials::full::first;
 
 // What is answered about one action, of its sets the atoms of `within`.
 fn check_action<X: Task, Y: Task, D: Display>(
@@ -65,10 +66,6 @@ fn check_atoms<X: Task, Y: Task, D: Display>(rt: &impl Abort, what: &D, x: &X, y
     }
 }
 
-fn below(n: u16) -> Atoms {
-    (0..n).fold(Atoms::empty(), |set, p| set.insert(p))
-}
-
 // Every answer but the height, for known numbers and others.
 pub fn check_same<X: Task, Y: Task, D: Display>(rt: &impl Abort, what: &D, x: &X, y: &Y) {
     assert_eq!(rt;
@@ -90,5 +87,5 @@ pub fn check_same<X: Task, Y: Task, D: Display>(rt: &impl Abort, what: &D, x: &X
 pub fn check_kept<X: Task, Y: Task, D: Display>(rt: &impl Abort, what: &D, x: &X, y: &Y) {
     assert_eq!(rt; y.height(), x.height(), "{what}: height");
     check_atoms(rt, what, x, y, x.atoms());
-    check_actions(rt, what, x, y, x.actions(), below(x.atoms()));
+    check_actions(rt, what, x, y, x.actions(), first(x.atoms()));
 }

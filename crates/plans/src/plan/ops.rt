@@ -1,18 +1,16 @@
 ghost use Rattle.std.specs.Prelude.{◌≡◌, ◌+◌, ◌<◌, ◌≤◌, [], ◌∷◌, ◌++◌, length, MatchOption};
 ghost use Rattle.planning.specs.Edits.{splice};
-ghost use Rattle.planning.specs.Trims.{left_out};
 ghost use Rattle.plans.specs.Steps.{steps_of};
 
 use super::Plan;
-use tasks::verdict::MOST_STEPS;
+use arrayvec::ArrayVec;
 
 impl Plan {
     pub fn empty() -> Plan
         ensures { steps_of result ≡ [] }
     {
         Plan {
-            len: 0,
-            steps: [0; 256],
+            steps: ArrayVec::new(),
         }
     }
 
@@ -20,34 +18,23 @@ impl Plan {
         ensures value { result.now ≡ steps_of self.now }
         ensures few { length result.now ≤ 256 }
     {
-        &self.steps[0..self.len]
+        self.steps.as_slice()
     }
 
     // The steps with `part` behind them; none if that is too long.
     pub fn then(self, part: &[u16]) -> Option<Plan>
         ensures { MatchOption result (256 < length (steps_of self ++ part.now)) (λ p. steps_of p ≡ steps_of self ++ part.now) }
     {
-        if part.len() > MOST_STEPS - self.len {
-            return None;
-        }
         let mut steps = self.steps;
-        for k in 0..part.len() {
-            steps[self.len + k] = part[k];
-        }
-        Some(Plan {
-            len: self.len + part.len(),
-            steps,
-        })
+        steps.try_extend_from_slice(part).ok()?;
+        Some(Plan { steps })
     }
 
-    // The steps with `a` behind them, if there is room.
-    pub fn push(self, a: u16) -> Plan
-        ensures { length (steps_of self) < 256 → steps_of result ≡ steps_of self ++ a ∷ [] }
+    // Puts `a` behind the steps, if there is room.
+    pub fn push(&mut self, a: u16)
+        ensures { length (steps_of self.old) < 256 → steps_of self.new ≡ steps_of self.old ++ a ∷ [] }
     {
-        match self.then(&[a]) {
-            Some(plan) => plan,
-            None => self,
-        }
+        let _ = self.steps.try_push(a);
     }
 
     // The plan with `part` in place of the `n` steps from index `i` on; none if that is too long.
@@ -55,22 +42,8 @@ impl Plan {
         ensures { i + n ≤ length (steps_of self.now) → MatchOption result (256 < length (splice (steps_of self.now) i n part.now)) (λ p. steps_of p ≡ splice (steps_of self.now) i n part.now) }
     {
         let steps = self.as_slice();
-        if i > steps.len() || n > steps.len() - i {
-            return None;
-        }
-        Plan::empty()
-            .then(&steps[0..i])?
-            .then(part)?
-            .then(&steps[i + n..steps.len()])
-    }
-
-    // The plan without the step at index `i`.
-    pub fn without(&self, i: usize) -> Plan
-        ensures { i < length (steps_of self.now) → steps_of result ≡ left_out (steps_of self.now) i }
-    {
-        match self.splice(i, 1, &[]) {
-            Some(plan) => plan,
-            None => *self,
-        }
+        let front = steps.get(..i)?;
+        let rest = steps.get(i..)?.get(n..)?;
+        Plan::empty().then(front)?.then(part)?.then(rest)
     }
 }

@@ -30,12 +30,12 @@ fn plans_of_every_size(rt: HostRuntime) {
             &rt,
             n,
             &[
-                (&[], refused(Refusal::GoalNotMet, 1, 0, n)),
+                (&[], refused(Refusal::GoalNotMet, 1, 0, n, 0)),
                 (&[0], Ok(())),
-                (&[1], refused(Refusal::NotApplicable, 1, 0, n)),
-                (&[0, 1], refused(Refusal::GoalNotMet, 3, 0, n)),
+                (&[1], refused(Refusal::NotApplicable, 1, 0, n, 0)),
+                (&[0, 1], refused(Refusal::GoalNotMet, 3, 0, n, 0)),
                 (&[0, 1, 0], Ok(())),
-                (&[0, 2], refused(Refusal::UnknownAction, 2, 0, 0)),
+                (&[0, 2], refused(Refusal::UnknownAction, 2, 0, 0, 0)),
             ],
         );
     }

@@ -19,14 +19,14 @@ fn plan_with(steps: &[(usize, u16)]) -> [u16; ROOM] {
 #[test]
 fn worked_plans(rt: HostRuntime) {
     let rows: [(&[u16], Result<(), Fault>); 8] = [
-        (&[], refused(Refusal::GoalNotMet, 1, 3, 1)),
+        (&[], refused(Refusal::GoalNotMet, 1, 3, 1, 0)),
         (&[0, 1, 2, 3], Ok(())),
-        (&[0, 3], refused(Refusal::NotApplicable, 2, 1, 2)),
-        (&[0, 6], refused(Refusal::UnknownAction, 2, 0, 0)),
-        (&[65535], refused(Refusal::UnknownAction, 1, 0, 0)),
-        (&[4], refused(Refusal::NotApplicable, 1, 0, 1)),
-        (&[0, 1, 3], refused(Refusal::NotApplicable, 3, 2, 1)),
-        (&[0, 1, 2], refused(Refusal::GoalNotMet, 4, 3, 1)),
+        (&[0, 3], refused(Refusal::NotApplicable, 2, 1, 2, 0)),
+        (&[0, 6], refused(Refusal::UnknownAction, 2, 0, 0, 0)),
+        (&[65535], refused(Refusal::UnknownAction, 1, 0, 0, 0)),
+        (&[4], refused(Refusal::NotApplicable, 1, 0, 1, 0)),
+        (&[0, 1, 3], refused(Refusal::NotApplicable, 3, 2, 1, 0)),
+        (&[0, 1, 2], refused(Refusal::GoalNotMet, 4, 3, 1, 0)),
     ];
     for (plan, want) in rows {
         assert_eq!(rt; Bench.judge(plan), want, "plan {plan:?}");
@@ -37,22 +37,34 @@ fn worked_plans(rt: HostRuntime) {
 #[test]
 fn long_plans(rt: HostRuntime) {
     let rows: [(usize, &[(usize, u16)], Result<(), Fault>); 12] = [
-        (0, &[], refused(Refusal::GoalNotMet, 1, 3, 1)),
-        (1, &[], refused(Refusal::GoalNotMet, 2, 3, 1)),
+        (0, &[], refused(Refusal::GoalNotMet, 1, 3, 1, 0)),
+        (1, &[], refused(Refusal::GoalNotMet, 2, 3, 1, 0)),
         (255, &[(252, 1), (253, 2), (254, 3)], Ok(())),
         (256, &[(253, 1), (254, 2), (255, 3)], Ok(())),
-        (256, &[], refused(Refusal::GoalNotMet, 257, 3, 1)),
-        (256, &[(255, 6)], refused(Refusal::UnknownAction, 256, 0, 0)),
-        (257, &[], refused(Refusal::TooManySteps, 257, 0, 0)),
+        (256, &[], refused(Refusal::GoalNotMet, 257, 3, 1, 0)),
+        (
+            256,
+            &[(255, 6)],
+            refused(Refusal::UnknownAction, 256, 0, 0, 0),
+        ),
+        (257, &[], refused(Refusal::TooManySteps, 257, 0, 0, 0)),
         (
             257,
             &[(254, 1), (255, 2), (256, 3)],
-            refused(Refusal::TooManySteps, 257, 0, 0),
+            refused(Refusal::TooManySteps, 257, 0, 0, 0),
         ),
-        (257, &[(256, 6)], refused(Refusal::TooManySteps, 257, 0, 0)),
-        (257, &[(256, 3)], refused(Refusal::TooManySteps, 257, 0, 0)),
-        (300, &[], refused(Refusal::TooManySteps, 257, 0, 0)),
-        (300, &[(1, 3)], refused(Refusal::NotApplicable, 2, 1, 2)),
+        (
+            257,
+            &[(256, 6)],
+            refused(Refusal::TooManySteps, 257, 0, 0, 0),
+        ),
+        (
+            257,
+            &[(256, 3)],
+            refused(Refusal::TooManySteps, 257, 0, 0, 0),
+        ),
+        (300, &[], refused(Refusal::TooManySteps, 257, 0, 0, 0)),
+        (300, &[(1, 3)], refused(Refusal::NotApplicable, 2, 1, 2, 0)),
     ];
     for (len, steps, want) in rows {
         assert!(rt; len <= ROOM, "{len} steps, over {ROOM}");
@@ -67,12 +79,12 @@ fn steps_at_places(rt: HostRuntime) {
     let rows: [(usize, u16, Result<&[u16], Fault>); 8] = [
         (1, 0, Ok(&[0])),
         (256, 0, Ok(&[0])),
-        (256, 1, refused(Refusal::NotApplicable, 256, 0, 1)),
-        (256, 6, refused(Refusal::UnknownAction, 256, 0, 0)),
-        (257, 0, refused(Refusal::TooManySteps, 257, 0, 0)),
-        (257, 1, refused(Refusal::TooManySteps, 257, 0, 0)),
-        (257, 6, refused(Refusal::TooManySteps, 257, 0, 0)),
-        (65536, 0, refused(Refusal::TooManySteps, 65536, 0, 0)),
+        (256, 1, refused(Refusal::NotApplicable, 256, 0, 1, 0)),
+        (256, 6, refused(Refusal::UnknownAction, 256, 0, 0, 0)),
+        (257, 0, refused(Refusal::TooManySteps, 257, 0, 0, 0)),
+        (257, 1, refused(Refusal::TooManySteps, 257, 0, 0, 0)),
+        (257, 6, refused(Refusal::TooManySteps, 257, 0, 0, 0)),
+        (65536, 0, refused(Refusal::TooManySteps, 65536, 0, 0, 0)),
     ];
     for (place, a, want) in rows {
         let got = step(&Bench, place, a, Atoms::empty());

@@ -1,16 +1,18 @@
-use Rattle.std.proofs.Common.{sym, refl, ap, ◌∙◌, subst, arith}
-use Rattle.planning.specs.Piles.{Built, macros, meaning}
+use Rattle.std.proofs.Common.{[], sym, subst, arith}
+use Rattle.planning.specs.Piles.{meaning}
+use Rattle.planning.specs.Rows.{MacroRows}
 use Rattle.planning.proofs.Empties.{no_macro}
 use Rattle.planning.proofs.Soundness.{built_sound}
 use Rattle.layers.proofs.macro_layer.MacroLayer.new.Goals as goal
 
-pub returns : goal.returns
-returns g c =
+pub invariant_of-result : goal.invariant_of-result
+invariant_of-result g c =
     let p = g.T.Task.pile c.args.below in
-    let is = ap (macros p c.actions-from.result) c.new.ensures in
-    record {
-      below = refl;
-      pile = is;
-      built = λ b. subst Built (sym is) (b, record { each = tt; few = omega arith; room = omega (arith, (built_sound p b).lawful.few_actions) }, c.actions-from.ensures b);
-      empty = λ b. ap meaning is ∙ no_macro (meaning p) (built_sound p b).lawful;
-    }
+    let b = g.T.Task.built c.args.below in
+    let none : MacroRows (meaning p) [] = record { each = tt; few = omega arith; room = omega (arith, (built_sound p b).lawful.few_actions) } in
+    record { built = (b, subst (MacroRows (meaning p)) (sym c.new-rows.ensures) none, c.actions-from.ensures) }
+
+pub returns-clause-empty : goal.returns-clause-empty
+returns-clause-empty g c =
+    let p = g.T.Task.pile c.args.below in
+    rw c.new-rows.ensures (no_macro (meaning p) (built_sound p (g.T.Task.built c.args.below)).lawful)

@@ -1,26 +1,24 @@
-use Rattle.std.proofs.Common.{sym, refl, ap, ◌∙◌, subst, ap₂, arith}
+use Rattle.std.proofs.Common.{[], sym, subst, arith}
 use Rattle.planning.specs.Marks.{marks_of}
-use Rattle.planning.specs.Piles.{Built, ruled, meaning}
+use Rattle.planning.specs.Piles.{meaning}
+use Rattle.planning.specs.Rows.{RuleRows}
 use Rattle.planning.proofs.Empties.{no_rule}
 use Rattle.planning.proofs.Soundness.{built_sound}
 use Rattle.layers.proofs.rule_layer.RuleLayer.new.Goals as goal
 
-pub returns : goal.returns
-returns g c =
+pub invariant_of-result : goal.invariant_of-result
+invariant_of-result g c =
     let p = g.T.Task.pile c.args.below in
-    let is = ap₂ (ruled p c.atoms-from.result) c.new.ensures.rule c.new.ensures.rows in
-    record {
-      below = refl;
-      pile = is;
-      built = λ b. subst Built (sym is) (
-        b,
-        record {
-          known = tt;
-          rising = λ i j l m. absurd (omega arith);
-          few = omega arith;
-          room = omega (arith, (built_sound p b).lawful.few_atoms);
-        },
-        c.atoms-from.ensures b,
-      );
-      empty = λ b. ap meaning is ∙ no_rule (meaning p) (marks_of (meaning p) c.args.rule) (built_sound p b).lawful;
-    }
+    let b = g.T.Task.built c.args.below in
+    let none : RuleRows (meaning p) [] = record {
+      known = tt;
+      rising = λ i j l m. absurd (omega arith);
+      few = omega arith;
+      room = omega (arith, (built_sound p b).lawful.few_atoms);
+    } in
+    record { built = (b, subst (RuleRows (meaning p)) (sym c.new-listed.ensures) none, c.atoms-from.ensures) }
+
+pub returns-clause-empty : goal.returns-clause-empty
+returns-clause-empty g c =
+    let p = g.T.Task.pile c.args.below in
+    rw c.new-listed.ensures (no_rule (meaning p) (marks_of (meaning p) c.args.rule) (built_sound p (g.T.Task.built c.args.below)).lawful)

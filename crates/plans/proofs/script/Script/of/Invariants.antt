@@ -1,11 +1,12 @@
-use Rattle.std.proofs.Common.{◌≡◌, ℕ, ◌<◌, length, get_or}
-use Rattle.planning.specs.Piles.{Built, meaning}
+use Rattle.std.proofs.Common.{◌≡◌, take, map}
+use Rattle.std.specs.List.{All}
+use Rattle.planning.specs.Piles.{meaning}
 use Rattle.tasks.specs.Answers.{Acts}
-use Rattle.plans.specs.Scripts.{blank}
 use Rattle.plans.proofs.script.Script.of.Given as goal
 
--- the actions so far are those of the steps
-abbrev pub invariant-loop-k : goal.invariant-loop-k
-invariant-loop-k g l =
-    let p = g.P.Task.pile l.task in
-    (length l.actions ≡ 256) × (Built p → (k : ℕ) → k < l.k → Acts (meaning p) (get_or l.steps k 0) (get_or l.actions k blank))
+-- the steps so far have their numbers and actions
+abbrev pub invariant-loop-a : goal.invariant-loop-a
+invariant-loop-a g l = record {
+  numbered : map (λ s. s.number) l.steps.items ≡ take l.a-index l.a-items;
+  each : All (λ s. Acts (meaning (g.P.Task.pile l.task)) s.number s.action) l.steps.items;
+}

@@ -1,5 +1,0 @@
-use Rattle.pad.proofs.Grounded.{bench_bottom}
-use Rattle.pad.proofs.bench.Bench.judge.Goals as goal
-
-pub returns : goal.returns
-returns c = (c.judge.ensures.judgement bench_bottom).exact

@@ -1,6 +1,0 @@
-use Rattle.std.proofs.Common.{refl}
-use Rattle.tariffs.specs.Laws.{same_cents}
-use Rattle.tariffs.proofs.cents.ops.CentsAmount.join.Goals as goal
-
-pub returns : goal.returns
-returns c = same_cents _ _ refl

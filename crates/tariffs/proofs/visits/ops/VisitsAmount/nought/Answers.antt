@@ -1,6 +1,0 @@
-use Rattle.std.proofs.Common.{refl}
-use Rattle.tariffs.specs.Laws.{same_visits}
-use Rattle.tariffs.proofs.visits.ops.VisitsAmount.nought.Goals as goal
-
-pub returns : goal.returns
-returns c = same_visits _ _ refl refl
