@@ -8,7 +8,7 @@ use tasks::judge;
 use tasks::task::Task;
 
 // Load-keys uses `on` only as reset left it.
-const RESET_FIRST: Rule = Rule {
+pub const RESET_FIRST: Rule = Rule {
     sort: RuleSort::Predecessor,
     first: 4,
     second: 1,
@@ -16,7 +16,7 @@ const RESET_FIRST: Rule = Rule {
 };
 
 // Of what align left, seal alone makes use.
-const ALIGN_FOR_SEAL: Rule = Rule {
+pub const ALIGN_FOR_SEAL: Rule = Rule {
     sort: RuleSort::Successor,
     first: 2,
     second: 3,
@@ -29,7 +29,7 @@ const ALIGN_FOR_SEAL_STRICT: Rule = Rule {
 };
 
 // Load-keys and then align.
-const PREPARE: Join = Join {
+pub const PREPARE: Join = Join {
     first: 1,
     second: 2,
     kind: 6,

@@ -4,6 +4,7 @@
 
 mod bare;
 mod layered;
+mod orders;
 mod show;
 
 use std::io;
@@ -17,5 +18,6 @@ fn main(rt: HostRuntime) -> io::Result<()> {
     bare::show_plans(&rt)?;
     layered::show_rules(&rt)?;
     layered::show_macros(&rt)?;
-    layered::show_piles(&rt)
+    layered::show_piles(&rt)?;
+    orders::show_orders(&rt)
 }

@@ -1,0 +1,27 @@
+use Rattle.std.proofs.Common.{ℕ, List, map, MatchResult, Ok, Err, Result, ap, ◌∙◌, subst}
+use Rattle.planning.specs.Piles.{Pile, bare, ruled, macros}
+use Rattle.planning.specs.Runs.{log_of, QuotedTerm}
+use Rattle.tariffs.specs.Laws.{cents_amounts}
+use Rattle.tariffs.specs.Prices.{bank_price}
+use Rattle.service.specs.Calls.{held, call_of, answer_of}
+use Rattle.pad.specs.Bench.{bench}
+use Rattle.bench.proofs.orders.serve.Goals as goal
+
+of_ok : {X F : Type 0} {P Q : X → Type 0} → ((x : X) → P x → Q x) → (r : Result X F) → MatchResult r P (λ _. ⊥) → MatchResult r Q (λ _. ⊥)
+of_ok f (Ok x) p = f x p
+of_ok f (Err x) p = absurd p
+
+pub returns-clause-term : goal.returns-clause-term
+returns-clause-term c fits =
+    let row = log_of (map call_of c.args.calls.now) (map answer_of c.carry_out.new.answers) in
+    let plan = held c.carry_out.new.self.plan in
+    let o = c.open-order.result.pile in
+    let opened = macros (ruled (ruled (bare bench) o.below.below.from o.below.below.rule o.below.below.listed.items) o.below.from o.below.rule o.below.listed.items) o.from o.rows.items in
+    let pile = ap (λ o. macros (ruled (ruled (bare bench) o.below.below.from o.below.below.rule o.below.below.listed.items) o.below.from o.below.rule o.below.listed.items) o.from o.rows.items) c.open-order.ensures.pile ∙ c.service_pile.ensures in
+    let prices = ap (λ f. f.cents.now) c.open-order.ensures.tariff ∙ c.new.ensures in
+    of_ok (λ quote carried. (
+      plan,
+      subst (λ (p : Pile). QuotedTerm cents_amounts (bank_price c.args.prices.now) p row plan quote) pile
+          (subst (λ (cents : List ℕ). QuotedTerm cents_amounts (bank_price cents) opened row plan quote) prices (carried.term c.open-order.ensures.plan)),
+    ))
+    c.carry_out.result (c.carry_out.ensures.carried fits)
