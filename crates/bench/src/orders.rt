@@ -1,11 +1,11 @@
 // Orders over the bench under both rules, with a macro on them.
-ghost use Rattle.std.specs.Prelude.{◌≡◌, ◌<◌, ◌≤◌, [], length, map, Err, MatchResult};
+ghost use Rattle.std.specs.Prelude.{◌≡◌, ◌<◌, ◌≤◌, [], length, map, drop, Err, MatchResult};
 ghost use Rattle.std.specs.Result.{result_unwrap_or};
 ghost use Rattle.planning.specs.Faults.{at_place};
 ghost use Rattle.planning.specs.Orders.{Held};
 ghost use Rattle.planning.specs.Piles.{bare, ruled, macros, meaning};
 ghost use Rattle.planning.specs.Rows.{rule_row, macro_row};
-ghost use Rattle.planning.specs.Runs.{log_of, QuotedTerm};
+ghost use Rattle.planning.specs.Runs.{log_of, Run, QuotedTerm};
 ghost use Rattle.planning.specs.declared.refusal.Refusal.TheVariants.{BufferTooShort};
 ghost use Rattle.service.specs.Calls.{call_of, answer_of};
 ghost use Rattle.pad.specs.Bench.{bench};
@@ -14,12 +14,12 @@ ghost use Rattle.tariffs.specs.Prices.{bank_price};
 ghost use Rattle.bench.specs.Piles.{service_pile};
 
 use crate::layered::{ALIGN_FOR_SEAL, PREPARE, RESET_FIRST};
-use crate::show::show_title;
+use crate::show::{Answer, show_title};
 use layers::{MacroLayer, RuleLayer};
 use pad::Bench;
 use planning::{Fault, Join, Rule};
 use service::{Call, Order};
-use std::{fmt, io};
+use std::io;
 use tariffs::{Bank, Cents};
 use tasks::task::Task;
 
@@ -58,24 +58,11 @@ pub fn serve(
     answers: &mut [Result<Option<Cents>, Fault>],
 ) -> Result<Cents, Fault>
     ensures short { length answers.old < length calls.now → (result ≡ Err (at_place BufferTooShort 0)) × (answers.new ≡ answers.old) }
-    ensures term { length calls.now ≤ length answers.old → MatchResult result (λ quote. (held : Held) × QuotedTerm cents_amounts (bank_price prices.now) service_pile (log_of (map call_of calls.now) (map answer_of answers.new)) held quote) (λ _. ⊥) }
+    ensures beyond { drop (length calls.now) answers.new ≡ drop (length calls.now) answers.old }
+    ensures term { length calls.now ≤ length answers.old → MatchResult result (λ quote. (held : Held) × Run cents_amounts (bank_price prices.now) (meaning service_pile) (log_of (map call_of calls.now) (map answer_of answers.new)) held × QuotedTerm cents_amounts (bank_price prices.now) service_pile (log_of (map call_of calls.now) (map answer_of answers.new)) held quote) (λ _. ⊥) }
 {
     let mut order = Order::open(service_pile(), Bank::new(prices));
     order.carry_out(calls, answers)
-}
-
-// What a call gets, or the quote.
-#[derive(Clone, Copy)]
-struct Amount(Result<Option<Cents>, Fault>);
-
-impl fmt::Display for Amount {
-    fn fmt<W: fmt::Write>(&self, f: &mut fmt::Formatter<W>) -> fmt::Result {
-        match self.0 {
-            Ok(None) => f.write_str("accepted"),
-            Ok(Some(cents)) => write!(f, "{} cents", cents.value()),
-            Err(fault) => write!(f, "{fault}"),
-        }
-    }
 }
 
 pub fn show_orders(rt: &HostRuntime) -> io::Result<()> {
@@ -93,7 +80,7 @@ pub fn show_orders(rt: &HostRuntime) -> io::Result<()> {
     let mut answers = [Ok(None); 8];
     let quote = serve(&CENTS, &calls, &mut answers);
     for (call, answer) in calls.iter().zip(&answers) {
-        println!(rt; "  {call:?}: {}", Amount(*answer))?;
+        println!(rt; "  {call:?}: {}", Answer(*answer))?;
     }
-    println!(rt; "  quote: {}", Amount(quote.map(Some)))
+    println!(rt; "  quote: {}", Answer(quote.map(Some)))
 }

@@ -6,6 +6,7 @@ use pad::Bench;
 use pad::bench::{ACTIONS, ATOMS};
 use planning::Fault;
 use std::{fmt, io};
+use tariffs::Cents;
 use tasks::task::Task;
 use tasks::{step, wants};
 
@@ -63,14 +64,15 @@ impl fmt::Display for Below {
     }
 }
 
-// What a plan or a row gets.
+// What a plan, a row or a call gets.
 #[derive(Clone, Copy)]
-struct Answer(Result<(), Fault>);
+pub struct Answer(pub Result<Option<Cents>, Fault>);
 
 impl fmt::Display for Answer {
     fn fmt<W: fmt::Write>(&self, f: &mut fmt::Formatter<W>) -> fmt::Result {
         match self.0 {
-            Ok(()) => f.write_str("accepted"),
+            Ok(None) => f.write_str("accepted"),
+            Ok(Some(cents)) => write!(f, "{} cents", cents.value()),
             Err(fault) => write!(f, "{fault}"),
         }
     }
@@ -110,7 +112,7 @@ pub fn show_title(rt: &HostRuntime, title: &str) -> io::Result<()> {
 
 // What came of a row added to a layer.
 pub fn show_row(rt: &HostRuntime, answer: Result<(), Fault>) -> io::Result<()> {
-    println!(rt; "  row: {}", Answer(answer))
+    println!(rt; "  row: {}", Answer(answer.map(|()| None)))
 }
 
 pub fn show_plan<P: Task>(
@@ -122,5 +124,5 @@ pub fn show_plan<P: Task>(
     println!(rt; "  plan:{}", Steps(plan))?;
     show_wants(rt, task, plan)?;
     show_states(rt, task, plan)?;
-    println!(rt; "  verdict: {}", Answer(verdict))
+    println!(rt; "  verdict: {}", Answer(verdict.map(|()| None)))
 }
