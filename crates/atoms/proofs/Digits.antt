@@ -1,10 +1,9 @@
--- Digits of the operations on words, and how many of a word are set.
-use Rattle.std.proofs.Common.{◌≡◌, ℕ, zero, suc, ◌+◌, ◌-◌, ◌/◌, ◌%◌, ◌^◌, ◌<◌, ◌≤◌, true, false, cond, not, ◌&&◌, ◌||◌, eqb, sym, refl, ap, ◌∙◌, ap₂, pow-suc, arith}
-use Rattle.std.specs.Int.{w64}
-use Rattle.std.proofs.lemmas.Nat.Bits.{bit_at_and, bit_at_or, bit_at_not, bit_at_lowest, bit_at-suc, bit_at-zero, bit_at-pow_same, bit_at-pow_other, bit_at_above, bit_at-trailing_zeros}
+-- Digits of the operations on words, and how many of a word are set, at any width.
+use Rattle.std.proofs.Common.{◌≡◌, ℕ, zero, suc, ◌+◌, ◌-◌, ◌/◌, ◌%◌, ◌^◌, ◌<◌, ◌≤◌, true, false, cond, not, ◌&&◌, ◌||◌, eqb, ◌⊎◌, sym, refl, ap, ◌∙◌, ap₂, inl, inr, pow-suc, arith}
+use Rattle.std.proofs.lemmas.Nat.Bits.{bit_at_and, bit_at_or, bit_at_lowest, bit_at-suc, bit_at-zero, bit_at-pow_same, bit_at-pow_other, bit_at_above}
 use lib.Bits.{bit_and, bit_or}
-use lib.Count.{ones, ones_step, count_trailing_zeros}
-use Rattle.std.proofs.lemmas.Bool.{eq-eqb}
+use lib.Count.{ones, ones_step, count_trailing_zeros, under as below}
+use Rattle.std.proofs.lemmas.Bool.{eq-eqb, ne_eqb, cases_eq}
 use Rattle.std.proofs.lemmas.Bool.Decides.{nat_tests}
 use Rattle.planning.specs.Sets.{count}
 use Rattle.planning.proofs.Counts.{count_same, count_low}
@@ -18,10 +17,6 @@ pub bit-and : (a b k : ℕ) → bit (bit_and a b) k ≡ (bit a k && bit b k)
 unfolding bit
 bit-and a b k = grind (arith, nat_tests, bit_at_and a b k)
 
-pub bit_not : (a k : ℕ) → a < 2 ^ 64 → k < 64 → bit ((2 ^ 64 - 1) - a) k ≡ not (bit a k)
-unfolding bit
-bit_not a k h l = grind (arith, nat_tests, bit_at_not w64 a k h l)
-
 -- the lowest digit, and the others
 pub bit_zero : (n : ℕ) → bit n 0 ≡ eqb (n % 2) 1
 unfolding bit
@@ -34,6 +29,20 @@ bit_suc n k = ap (λ x. eqb x 1) (bit_at-suc n k)
 pub bit_none : (k : ℕ) → bit 0 k ≡ false
 unfolding bit
 bit_none k = ap (λ x. eqb x 1) (bit_at-zero k)
+
+pub bit_not : (w a k : ℕ) → a < 2 ^ w → k < w → bit ((2 ^ w - 1) - a) k ≡ not (bit a k)
+bit_not zero a k h l = absurd (omega arith)
+bit_not (suc w) a zero h l =
+    bit_zero _ ∙ go (cases_eq (a % 2) 1) ∙ sym (ap not (bit_zero a))
+  where
+    go : (a % 2 ≡ 1) ⊎ (a % 2 ≡ 1 → ⊥) → eqb (((2 ^ suc w - 1) - a) % 2) 1 ≡ not (eqb (a % 2) 1)
+    go (inl e) = ne_eqb _ 1 (omega (arith, pow-suc 2 w)) ∙ sym (ap not (eq-eqb (a % 2) 1 e))
+    go (inr n) = eq-eqb _ 1 (omega (arith, pow-suc 2 w)) ∙ sym (ap not (ne_eqb (a % 2) 1 n))
+bit_not (suc w) a (suc k) h l =
+    bit_suc _ k ∙ ap (λ n. bit n k) half ∙ bit_not w (a / 2) k (omega (arith, pow-suc 2 w)) (omega arith) ∙ sym (ap not (bit_suc a k))
+  where
+    half : ((2 ^ suc w - 1) - a) / 2 ≡ (2 ^ w - 1) - a / 2
+    half = omega (arith, pow-suc 2 w)
 
 -- the number with digit k alone
 pub bit_one : (k j : ℕ) → bit (2 ^ k) j ≡ eqb j k
@@ -55,11 +64,19 @@ pub record Lowest (w n t : ℕ) : Type 0 where
   pub here : bit n t ≡ true
   pub under : (k : ℕ) → k < t → bit n k ≡ false
 
-pub trailing_lowest : (n : ℕ) → 0 < n → n < 2 ^ 64 → Lowest 64 n (count_trailing_zeros 64 n)
-unfolding bit
-trailing_lowest n p h =
-    let low = bit_at-trailing_zeros w64 n p h in
-    record { within = low.0; here = ap (λ x. eqb x 1) low.1; under = λ k l. ap (λ x. eqb x 1) (low.2 k l) }
+lowest_step : (w n d t : ℕ) → n % 2 ≡ d → (d ≡ 0 → Lowest w (n / 2) t) → Lowest (suc w) n (below d t)
+lowest_step w n zero t e h = record { within = omega (arith, (h refl).within); here = bit_suc n t ∙ (h refl).here; under = go }
+  where
+    go : (k : ℕ) → k < suc t → bit n k ≡ false
+    go zero l = bit_zero n ∙ ne_eqb _ 1 (omega arith)
+    go (suc k) l = bit_suc n k ∙ (h refl).under k (omega arith)
+lowest_step w n (suc d) t e h = record { within = omega arith; here = bit_zero n ∙ eq-eqb _ 1 (omega arith); under = λ k l. absurd (omega arith) }
+
+pub trailing_lowest : (w n : ℕ) → 0 < n → n < 2 ^ w → Lowest w n (count_trailing_zeros w n)
+unfolding count_trailing_zeros
+trailing_lowest zero n p h = absurd (omega arith)
+trailing_lowest (suc w) n p h =
+    lowest_step w n (n % 2) (count_trailing_zeros w (n / 2)) refl (λ e. trailing_lowest w (n / 2) (omega arith) (omega (arith, pow-suc 2 w)))
 
 digit_value : (n : ℕ) → n < 2 → n ≡ cond (eqb n 1) 1 0
 digit_value n h = grind (arith, nat_tests)

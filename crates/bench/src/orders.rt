@@ -21,12 +21,12 @@ use planning::{Fault, Join, Rule};
 use service::{Call, Order};
 use std::io;
 use tariffs::{Bank, Cents};
-use tasks::task::Task;
+use tasks::task::BuiltTask;
 
 // What each action of the bench is charged.
 const CENTS: [u32; 6] = [500, 900, 1200, 300, 250, 0];
 
-fn under_rule<T: Task>(below: T, rule: Rule, p: u16) -> RuleLayer<T>
+fn under_rule<T: BuiltTask>(below: T, rule: Rule, p: u16) -> RuleLayer<T>
     ensures { ruled (T.Task.pile result.below) result.from result.rule result.listed.items ≡ ruled (T.Task.pile below) (meaning (T.Task.pile below)).atoms rule (result_unwrap_or (rule_row (meaning (T.Task.pile below)) [] p) []) }
 {
     let mut layer = RuleLayer::new(below, rule);
@@ -34,7 +34,7 @@ fn under_rule<T: Task>(below: T, rule: Rule, p: u16) -> RuleLayer<T>
     layer
 }
 
-fn with_macro<T: Task>(below: T, row: Join) -> MacroLayer<T>
+fn with_macro<T: BuiltTask>(below: T, row: Join) -> MacroLayer<T>
     ensures { macros (T.Task.pile result.below) result.from result.rows.items ≡ macros (T.Task.pile below) (meaning (T.Task.pile below)).actions (result_unwrap_or (macro_row (meaning (T.Task.pile below)) [] row) []) }
 {
     let mut layer = MacroLayer::new(below);

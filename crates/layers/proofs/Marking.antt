@@ -1,5 +1,5 @@
 -- What a rule layer marks: atom by atom, and over a task that is lawful and rows that fit it.
-use Rattle.std.proofs.Common.{◌≡◌, ℕ, ◌+◌, ◌-◌, ◌<◌, Bool, true, false, ltb, List, length, get_or, take, sym, ap, ◌∙◌, ap₂, arith}
+use Rattle.std.proofs.Common.{◌≡◌, ℕ, ◌+◌, ◌-◌, ◌<◌, ◌≤◌, Bool, true, false, ltb, List, length, get_or, take, sym, ap, ◌∙◌, ap₂, arith}
 use mathlib.Core.Path.{fun_ext}
 use Rattle.std.proofs.ByRecursion.{All-get_or}
 use Rattle.std.proofs.lemmas.List.{length-take-le, get_or-take}
@@ -38,12 +38,12 @@ marked_same n listed s m m' h = fun_ext (λ q. grind (arith, nat_tests, h (q - n
 module _ (t : Task) (law : Lawful t) (listed : List ℕ) (rows : RuleRows t listed) where
   -- a set that the layer marked, by what the task below answered
   pub mark_is : (n : ℕ) (s s' m m' r : AtomSet) → n ≡ t.atoms → s ≡ s' → m ≡ m' → Under t.atoms s'
-      → (Under n s → r ≡ marked n listed s m) → r ≡ marked t.atoms listed s' m'
-  mark_is n s s' m m' r e f g u is = is (rw (e, f) u) ∙ cc
+      → (n + length listed ≤ 320 → Under n s → r ≡ marked n listed s m) → r ≡ marked t.atoms listed s' m'
+  mark_is n s s' m m' r e f g u is = is (omega (arith, e, rows.room)) (rw (e, f) u) ∙ cc
 
   -- all marks, or none
   pub mark_all : (b : Bool) (n : ℕ) (s s' m m' r : AtomSet) → n ≡ t.atoms → s ≡ s' → m ≡ when b (λ p. ltb p 320) → m' ≡ (λ p. b) → Under t.atoms s'
-      → (Under n s → r ≡ marked n listed s m) → r ≡ marked t.atoms listed s' m'
+      → (n + length listed ≤ 320 → Under n s → r ≡ marked n listed s m) → r ≡ marked t.atoms listed s' m'
   mark_all b n s s' m m' r e f g h u is =
       mark_is n s s' m (when b (λ p. ltb p 320)) r e f g u is
       ∙ marked_same t.atoms listed s' (when b (λ p. ltb p 320)) (λ p. b) (λ k l. let low = All-get_or (λ p. p < t.atoms) listed k 0 l rows.known in grind (arith, nat_tests))

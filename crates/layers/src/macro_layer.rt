@@ -2,7 +2,7 @@ ghost use Rattle.std.specs.Prelude.{◌≡◌, ◌-◌, ◌<◌, true, [], ◌�
 ghost use Rattle.planning.specs.Piles.{Built, macros, meaning, raised};
 ghost use Rattle.planning.specs.Rows.{MacroRows, macro_room, macro_row};
 ghost use Rattle.planning.specs.Verdicts.{on_ok};
-ghost use Rattle.planning.proofs.Props.{built_prop};
+ghost use Rattle.planning.proofs.Props.{kept_prop};
 ghost use Rattle.layers.specs.Adding.{Added};
 
 use crate::height::one_higher;
@@ -11,7 +11,7 @@ use arrayvec::ArrayVec;
 use atoms::Atoms;
 use planning::{Fault, Join, Refusal};
 use tasks::action::NO_KIND;
-use tasks::task::Task;
+use tasks::task::{BuiltTask, Task};
 use tasks::{Action, BaseSteps};
 
 const MOST_MACROS: usize = 16;
@@ -27,13 +27,11 @@ pub struct MacroLayer<T: Task> {
     // the number of the first macro: how many actions there are below
     from: u16,
     rows: ArrayVec<Join, MOST_MACROS>,
-    ghost built: { Built (macros (T.pile below) from rows.items) } by { built_prop (macros (T.pile below) from rows.items) },
+    ghost built: { Built (T.pile below) → Built (macros (T.pile below) from rows.items) } by { kept_prop (T.pile below) (macros (T.pile below) from rows.items) },
 }
 
 impl<T: Task> Task for MacroLayer<T> {
     ghost pile = { λ s. macros (T.Task.pile s.below) s.from s.rows.items };
-
-    ghost built = { λ s. s.built };
 
     fn atoms(&self) -> u16 {
         self.below.atoms()
@@ -95,12 +93,16 @@ impl<T: Task> Task for MacroLayer<T> {
     }
 }
 
+impl<T: BuiltTask> BuiltTask for MacroLayer<T> {
+    ghost built = { λ s. s.built (T.BuiltTask.built s.below) };
+}
+
 impl<T: Task> MacroLayer<T> {
     // Has no row yet.
     pub fn new(below: T) -> MacroLayer<T>
         ensures below { result.below ≡ below }
         ensures pile { macros (T.Task.pile result.below) result.from result.rows.items ≡ macros (T.Task.pile below) result.from [] }
-        ensures empty { meaning (macros (T.Task.pile result.below) result.from result.rows.items) ≡ raised (meaning (T.Task.pile below)) }
+        ensures empty { Built (T.Task.pile below) → meaning (macros (T.Task.pile result.below) result.from result.rows.items) ≡ raised (meaning (T.Task.pile below)) }
     {
         let from = below.actions();
         let rows = ArrayVec::new();
@@ -118,7 +120,7 @@ impl<T: Task> MacroLayer<T> {
     // Why the row cannot stand behind the others.
     fn check(&self, row: Join) -> Result<(), Fault>
         ensures room { is_ok result ≡ true → length self.now.rows.items < 16 }
-        ensures exact { on_ok (λ _. self.now.rows.items ++ row ∷ []) result ≡ macro_row (meaning (T.Task.pile self.now.below)) self.now.rows.items row }
+        ensures exact { Built (T.Task.pile self.now.below) → on_ok (λ _. self.now.rows.items ++ row ∷ []) result ≡ macro_row (meaning (T.Task.pile self.now.below)) self.now.rows.items row }
     {
         let m = self.below.actions();
         if row.first >= m {
@@ -144,7 +146,7 @@ impl<T: Task> MacroLayer<T> {
     // Why there is no room for the row.
     fn check_room(&self, row: Join) -> Result<(), Fault>
         ensures room { is_ok result ≡ true → length self.now.rows.items < 16 }
-        ensures exact { on_ok (λ _. self.now.rows.items ++ row ∷ []) result ≡ macro_room (meaning (T.Task.pile self.now.below)) self.now.rows.items row }
+        ensures exact { Built (T.Task.pile self.now.below) → on_ok (λ _. self.now.rows.items ++ row ∷ []) result ≡ macro_room (meaning (T.Task.pile self.now.below)) self.now.rows.items row }
     {
         let len = self.rows.len();
         if len >= MOST_MACROS {
@@ -162,7 +164,7 @@ impl<T: Task> MacroLayer<T> {
     pub fn add(&mut self, row: Join) -> Result<(), Fault>
         ensures below { self.new.below ≡ self.old.below }
         ensures from { self.new.from ≡ self.old.from }
-        ensures added { Added (MacroRows (meaning (T.Task.pile self.old.below))) (macro_row (meaning (T.Task.pile self.old.below)) self.old.rows.items row) self.old.rows.items self.new.rows.items row result }
+        ensures added { Added (Built (T.Task.pile self.old.below)) (MacroRows (meaning (T.Task.pile self.old.below))) (macro_row (meaning (T.Task.pile self.old.below)) self.old.rows.items row) self.old.rows.items self.new.rows.items row result }
     {
         self.check(row)?;
         self.rows.push(row);

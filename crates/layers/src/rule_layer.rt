@@ -1,11 +1,11 @@
-ghost use Rattle.std.specs.Prelude.{◌≡◌, ◌<◌, true, [], ◌∷◌, ◌++◌, length, is_ok};
+ghost use Rattle.std.specs.Prelude.{◌≡◌, ◌+◌, ◌<◌, ◌≤◌, true, [], ◌∷◌, ◌++◌, length, is_ok};
 ghost use Rattle.atoms.specs.Has.{has};
 ghost use Rattle.planning.specs.Sets.{Under};
 ghost use Rattle.planning.specs.Marks.{marked};
 ghost use Rattle.planning.specs.Piles.{Built, ruled, meaning, raised};
 ghost use Rattle.planning.specs.Rows.{RuleRows, above, rule_row};
 ghost use Rattle.planning.specs.Verdicts.{on_ok};
-ghost use Rattle.planning.proofs.Props.{built_prop};
+ghost use Rattle.planning.proofs.Props.{kept_prop};
 ghost use Rattle.layers.specs.Adding.{Added};
 
 use crate::height::one_higher;
@@ -13,7 +13,7 @@ use crate::marks::{all_if, marks_by, marks_end, marks_start};
 use arrayvec::ArrayVec;
 use atoms::Atoms;
 use planning::{Fault, Refusal, Rule};
-use tasks::task::Task;
+use tasks::task::{BuiltTask, Task};
 use tasks::{Action, BaseSteps};
 
 const MOST_ATOMS: usize = 32;
@@ -28,13 +28,11 @@ pub struct RuleLayer<T: Task> {
     from: u16,
     rule: Rule,
     listed: ArrayVec<u16, MOST_ATOMS>,
-    ghost built: { Built (ruled (T.pile below) from rule listed.items) } by { built_prop (ruled (T.pile below) from rule listed.items) },
+    ghost built: { Built (T.pile below) → Built (ruled (T.pile below) from rule listed.items) } by { kept_prop (T.pile below) (ruled (T.pile below) from rule listed.items) },
 }
 
 impl<T: Task> Task for RuleLayer<T> {
     ghost pile = { λ s. ruled (T.Task.pile s.below) s.from s.rule s.listed.items };
-
-    ghost built = { λ s. s.built };
 
     // A length of at most 32 is shown to fit; `try_from` would add a case that never comes. So does an index below.
     fn atoms(&self) -> u16 {
@@ -87,12 +85,16 @@ impl<T: Task> Task for RuleLayer<T> {
     }
 }
 
+impl<T: BuiltTask> BuiltTask for RuleLayer<T> {
+    ghost built = { λ s. s.built (T.BuiltTask.built s.below) };
+}
+
 impl<T: Task> RuleLayer<T> {
     // Lists no atom yet.
     pub fn new(below: T, rule: Rule) -> RuleLayer<T>
         ensures below { result.below ≡ below }
         ensures pile { ruled (T.Task.pile result.below) result.from result.rule result.listed.items ≡ ruled (T.Task.pile below) result.from rule [] }
-        ensures empty { meaning (ruled (T.Task.pile result.below) result.from result.rule result.listed.items) ≡ raised (meaning (T.Task.pile below)) }
+        ensures empty { Built (T.Task.pile below) → meaning (ruled (T.Task.pile result.below) result.from result.rule result.listed.items) ≡ raised (meaning (T.Task.pile below)) }
     {
         let from = below.atoms();
         let listed = ArrayVec::new();
@@ -106,7 +108,7 @@ impl<T: Task> RuleLayer<T> {
 
     // The set with the marks of those listed atoms that are in `marks`.
     fn mark(&self, set: Atoms, marks: Atoms) -> Atoms
-        ensures { Under self.now.from (has set) → has result ≡ marked self.now.from self.now.listed.items (has set) (has marks) }
+        ensures { self.now.from + length self.now.listed.items ≤ 320 → Under self.now.from (has set) → has result ≡ marked self.now.from self.now.listed.items (has set) (has marks) }
     {
         let mut marked = set;
         for (k, p) in self.listed.as_slice().iter().enumerate() {
@@ -127,7 +129,7 @@ impl<T: Task> RuleLayer<T> {
     // Why `p` cannot be listed behind the others.
     fn check(&self, p: u16) -> Result<(), Fault>
         ensures room { is_ok result ≡ true → length self.now.listed.items < 32 }
-        ensures exact { on_ok (λ _. self.now.listed.items ++ p ∷ []) result ≡ rule_row (meaning (T.Task.pile self.now.below)) self.now.listed.items p }
+        ensures exact { Built (T.Task.pile self.now.below) → on_ok (λ _. self.now.listed.items ++ p ∷ []) result ≡ rule_row (meaning (T.Task.pile self.now.below)) self.now.listed.items p }
     {
         let n = self.below.atoms();
         let len = self.listed.len();
@@ -148,7 +150,7 @@ impl<T: Task> RuleLayer<T> {
         ensures below { self.new.below ≡ self.old.below }
         ensures from { self.new.from ≡ self.old.from }
         ensures rule { self.new.rule ≡ self.old.rule }
-        ensures added { Added (RuleRows (meaning (T.Task.pile self.old.below))) (rule_row (meaning (T.Task.pile self.old.below)) self.old.listed.items p) self.old.listed.items self.new.listed.items p result }
+        ensures added { Added (Built (T.Task.pile self.old.below)) (RuleRows (meaning (T.Task.pile self.old.below))) (rule_row (meaning (T.Task.pile self.old.below)) self.old.listed.items p) self.old.listed.items self.new.listed.items p result }
     {
         self.check(p)?;
         self.listed.push(p);

@@ -8,7 +8,7 @@ ghost use Rattle.pad.specs.Grounded.{bench_bottom};
 
 use atoms::Atoms;
 use planning::Fault;
-use tasks::task::Task;
+use tasks::task::{BuiltTask, Task};
 use tasks::{Action, BaseSteps, judge};
 
 pub const ATOMS: u16 = 5;
@@ -48,8 +48,6 @@ fn sets(a: u16) -> (Atoms, Atoms, Atoms)
 
 impl Task for Bench {
     ghost pile = { λ _. bare bench };
-
-    ghost built = { λ _. bench_bottom };
 
     fn atoms(&self) -> u16 {
         ATOMS
@@ -97,6 +95,10 @@ impl Task for Bench {
     fn first_height(&self, p: u16) -> u8 {
         self.height()
     }
+}
+
+impl BuiltTask for Bench {
+    ghost built = { λ _. bench_bottom };
 }
 
 impl Bench {

@@ -3,7 +3,7 @@ ghost use Rattle.pile_trials.specs.Tall.{stacked};
 ghost use Rattle.pile_trials.specs.Stacked.{stacked_built};
 
 use atoms::Atoms;
-use tasks::task::Task;
+use tasks::task::{BuiltTask, Task};
 use tasks::{Action, BaseSteps};
 
 // A task of one atom and no action, of this height: so many empty layers, without their cost.
@@ -23,8 +23,6 @@ impl Tall {
 
 impl Task for Tall {
     ghost pile = { λ s. stacked s.height };
-
-    ghost built = { λ s. stacked_built s.height };
 
     fn atoms(&self) -> u16 {
         1
@@ -62,4 +60,8 @@ impl Task for Tall {
     fn first_height(&self, p: u16) -> u8 {
         0
     }
+}
+
+impl BuiltTask for Tall {
+    ghost built = { λ s. stacked_built s.height };
 }

@@ -1,4 +1,5 @@
 // Each test goes through a table: a row that fails ends it, and is named by the message.
+mod claimed;
 mod growth;
 mod heights;
 mod macro_rows;

@@ -6,7 +6,7 @@ ghost use Rattle.pile_trials.specs.Grounded.{wide_bottom};
 
 use atoms::Atoms;
 use planning::Fault;
-use tasks::task::Task;
+use tasks::task::{BuiltTask, Task};
 use tasks::{Action, BaseSteps, judge};
 
 const MOST_ACTIONS: u16 = 288;
@@ -41,8 +41,6 @@ impl Wide {
 
 impl Task for Wide {
     ghost pile = { λ s. bare (wide s.actions) };
-
-    ghost built = { λ s. wide_bottom s.actions s.few };
 
     fn atoms(&self) -> u16 {
         ATOMS
@@ -90,4 +88,8 @@ impl Task for Wide {
     fn first_height(&self, p: u16) -> u8 {
         0
     }
+}
+
+impl BuiltTask for Wide {
+    ghost built = { λ s. wide_bottom s.actions s.few };
 }

@@ -61,7 +61,7 @@ last_adds t plan i p h = record {
   later = shift (λ k. T (t.adds (action_at plan k) p) → ⊥) (suc i) (length plan) h.later;
 }
 
-cond_yes : (b x y : Bool) → T b → cond b x y ≡ x
+pub cond_yes : (b x y : Bool) → T b → cond b x y ≡ x
 cond_yes b x y h = grind arith
 
 cond_no : (b x y : Bool) → (T b → ⊥) → cond b x y ≡ y

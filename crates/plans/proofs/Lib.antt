@@ -1,3 +1,4 @@
 mod Rows
+mod Gap
 mod Passes
 mod Rounds

@@ -1,6 +1,6 @@
--- The two passes over a plan: back from the goal by what the rest wants, forward from the start by states.
-use Rattle.std.proofs.Common.{◌≡◌, ℕ, ◌+◌, ◌<◌, ◌≤◌, true, false, List, [], ◌∷◌, ◌++◌, length, get_or, take, drop, set, Some, None, Decides, Option, sym, refl, ap, ◌∙◌, subst, ⊎_elim, arith, MatchOption}
-use Rattle.std.proofs.lemmas.List.{drop_all, drop_more, take_more, get_or-set_same, get_or-set_other}
+-- The pass over a plan by states, where it is known of each step what the rest behind it wants.
+use Rattle.std.proofs.Common.{◌≡◌, ℕ, ◌+◌, ◌<◌, ◌≤◌, true, false, List, [], ◌∷◌, ◌++◌, length, get_or, take, drop, Some, None, Decides, Option, sym, refl, ap, ◌∙◌, subst, ⊎_elim, arith, MatchOption}
+use Rattle.std.proofs.lemmas.List.{take_more}
 use Rattle.std.proofs.lemmas.Bool.{cases_eq, cases_order}
 use Rattle.atoms.specs.Has.{has}
 use Rattle.atoms.specs.declared.Atoms.{Atoms}
@@ -12,34 +12,6 @@ use Rattle.planning.proofs.Plans.{finally_push, runs_push}
 use Rattle.planning.proofs.Strikes.{can_strike_from, can_strike_only, can_strike_late}
 use Rattle.tasks.specs.Regressed.{Wanted}
 use Rattle.tasks.proofs.Backwards.{wanted_decides}
-
--- from index i on the sets are those that the rest of the plan wants
-abbrev pub Wants : Task → List ℕ → List (Option Atoms) → ℕ → Type 0
-Wants t plan wants i = (k : ℕ) → i ≤ k → k ≤ length plan → Wanted t (drop k plan) (get_or wants k None)
-
-module _ (t : Task) (plan : List ℕ) (wants : List (Option Atoms)) where
-  -- all of the plan is gone through from index n on
-  pub wants_first : (goal : Atoms) (n j : ℕ) → n ≡ j → n ≡ length plan → n < length wants → has goal ≡ t.goal → Wants t plan (set wants n (Some goal)) j
-  wants_first goal n j at e l is k h m =
-      let same : n ≡ k = omega arith in
-      let none : drop k plan ≡ [] = drop_all k plan (omega arith) in
-      subst (λ (j : ℕ). Wanted t (drop k plan) (get_or (set wants n (Some goal)) j None)) same
-      (subst (Wanted t (drop k plan)) (sym (get_or-set_same wants n (Some goal) None l)) (subst (λ (r : List ℕ). Wanted t r (Some goal)) (sym none) (tt, is)))
-
-  -- the step at index i, after those from m on
-  pub wants_more : (i j m : ℕ) (want r : Option Atoms) → i ≡ j → m ≡ i + 1 → i < length plan → i < length wants → want ≡ get_or wants m None → Wants t plan wants m
-      → ((rest : List ℕ) → Wanted t rest want → Wanted t (get_or plan i 0 ∷ rest) r) → Wants t plan (set wants i r) j
-  wants_more i j m want r at next l inside is later more k h n = ⊎_elim here there (cases_eq k i)
-    where
-      here : k ≡ i → Wanted t (drop k plan) (get_or (set wants i r) k None)
-      here e =
-          subst (λ (j : ℕ). Wanted t (drop j plan) (get_or (set wants i r) j None)) (sym e)
-          (subst (Wanted t (drop i plan)) (sym (get_or-set_same wants i r None inside))
-          (subst (λ (x : List ℕ). Wanted t x r) (sym (drop_more plan i 0 l))
-          (more (drop (i + 1) plan) (subst (λ (j : ℕ). Wanted t (drop j plan) want) next (subst (Wanted t (drop m plan)) (sym is) (later m (omega arith) (omega arith)))))))
-
-      there : (k ≡ i → ⊥) → Wanted t (drop k plan) (get_or (set wants i r) k None)
-      there d = subst (Wanted t (drop k plan)) (sym (get_or-set_other wants i k r None d)) (later k (omega arith) n)
 
 -- the steps before an index can be taken, they lead to the state, and none of them can be left out
 abbrev pub Passed : Task → List ℕ → AtomSet → ℕ → Type 0

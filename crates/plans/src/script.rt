@@ -1,21 +1,13 @@
-use arrayvec::ArrayVec;
 use atoms::Atoms;
 use tasks::Action;
-use tasks::verdict::MOST_STEPS;
 
 pub mod ops;
 
-// A step of a plan: its number, and what the task answers about it.
+// A step of a plan: its number, what the task answers about it, and what the rest of the plan behind it wants; none where no state
+// serves that rest. A script is a row of these.
 #[derive(Clone, Copy, Default)]
 pub struct Step {
     number: u16,
     action: Action,
-}
-
-// A plan with all that trimming it asks of the task: start, goal, and the action of each step.
-#[derive(Drop)]
-pub struct Script {
-    steps: ArrayVec<Step, MOST_STEPS>,
-    initial: Atoms,
-    goal: Atoms,
+    later: Option<Atoms>,
 }

@@ -1,4 +1,4 @@
 mod Carrying
-mod Charging
+mod Drops
 mod Forms
 mod Trimming

@@ -1,10 +1,18 @@
 -- What a trim of the plan held is for.
-use Rattle.std.proofs.Common.{◌≡◌, ℕ, ◌≤◌, List, [], length, Some, None, sym, ap, ◌∙◌, subst}
+use Rattle.std.proofs.Common.{◌≡◌, ℕ, ◌≤◌, List, [], length, Some, None, sym, ap, ◌∙◌, subst, arith}
+use Rattle.std.proofs.Math.Nat.{min-le_left}
+use Rattle.std.proofs.lemmas.List.{length-take}
 use Rattle.planning.specs.Orders.{Held}
 use Rattle.planning.specs.Piles.{Pile, Built, meaning}
 use Rattle.planning.specs.Trims.{trimmed, Spare, Trims}
+use Rattle.plans.specs.Steps.{steps_of}
+use Rattle.plans.specs.declared.plan.Plan.{Plan}
 use Rattle.planning.proofs.Soundness.{built_sound}
 use Rattle.planning.proofs.Trims.{trim_means, trim_idle}
+
+-- a plan record has up to 256 steps
+pub few : (p : Plan) → length (steps_of p) ≤ 256
+few p = omega (arith, length-take p.len p.steps, min-le_left p.len (length p.steps), p.fits)
 
 abbrev row_of : Held → List ℕ
 row_of None = []

@@ -33,14 +33,14 @@ abbrev pub steps_at : Held → ℕ → Result (ℕ × ℕ) Fault
 steps_at None i = Err (at_place NoPlan 0)
 steps_at (Some plan) i = cond (are_places plan i) (Ok (action_at plan i, action_at plan (suc i))) (Err (at_place NoStep i))
 
--- a call on an order: its answer and the plan held afterwards are those of the outcome; a refusal leaves the order as it was, and
--- pile and tariff stay
-pub record Does {P F X : Type 0} (outcome : Outcome X) (old : Order P F) (r : Result X Fault) (new : Order P F) : Type 0 where
+-- a call on an order: a refusal leaves the order as it was, and pile and tariff stay; the answer and the plan held afterwards are those
+-- of the outcome, if the pile is as `Below` says
+pub record Does {P F X : Type 0} (Below : Type 0) (outcome : Outcome X) (old : Order P F) (r : Result X Fault) (new : Order P F) : Type 0 where
   pub pile : new.pile ≡ old.pile
   pub tariff : new.tariff ≡ old.tariff
   pub kept : is_ok r ≡ false → new ≡ old
-  pub answers : r ≡ outcome.0
-  pub leaves : held new.plan ≡ outcome.1
+  pub answers : Below → r ≡ outcome.0
+  pub leaves : Below → held new.plan ≡ outcome.1
 
 -- the top of the pile is a macro layer, the action is none of the task below it, and the plan held solves the task
 abbrev pub TopMacro : Pile → Held → (List ℕ → ℕ) → Type 0

@@ -1,5 +1,5 @@
 ghost use Rattle.std.specs.Prelude.{◌≡◌, [], ◌∷◌, Some, None, MatchOption};
-ghost use Rattle.planning.specs.Piles.{meaning};
+ghost use Rattle.planning.specs.Piles.{Built, meaning};
 ghost use Rattle.planning.specs.Orders.{load_call, charge, quoted};
 ghost use Rattle.service.specs.Calls.{held, Does};
 
@@ -12,7 +12,7 @@ use plans::Plan;
 use tariffs::quote::quote_steps;
 use tariffs::{Amount, Tariff};
 use tasks::judge;
-use tasks::task::Task;
+use tasks::task::{BuiltTask, Task};
 
 // A plan over a pile, under a tariff.
 #[derive(Drop)]
@@ -40,7 +40,7 @@ impl<P: Task, F: Tariff> Order<P, F> {
 
     // Takes the row, if it solves the task of the pile.
     pub fn load(&mut self, row: &[u16]) -> Result<(), Fault>
-        ensures { Does (load_call (meaning (P.Task.pile self.old.pile)) (held self.old.plan) row.now) self.old result self.new }
+        ensures { Does (Built (P.Task.pile self.old.pile)) (load_call (meaning (P.Task.pile self.old.pile)) (held self.old.plan) row.now) self.old result self.new }
     {
         judge(&self.pile, row)?;
         self.plan = Plan::empty().then(row);
@@ -54,16 +54,23 @@ impl<P: Task, F: Tariff> Order<P, F> {
         self.plan.as_ref().map(|plan| plan.as_slice())
     }
 
+    // What one step is charged: the joined amounts of its base steps.
+    fn charge_step(&self, a: u16) -> F::Amount
+        ensures { Built (P.Task.pile self.now.pile) → result ≡ charge F.Amount.Amount.amounts (F.Tariff.price self.now.tariff) (meaning (P.Task.pile self.now.pile)) (a ∷ []) }
+    {
+        quote_steps(&self.tariff, self.pile.base_steps(a).as_slice())
+    }
+
     // What a row of steps is charged.
     fn charge_all(&self, steps: &[u16]) -> F::Amount
-        ensures { result ≡ charge F.Amount.Amount.amounts (F.Tariff.price self.now.tariff) (meaning (P.Task.pile self.now.pile)) steps.now }
+        ensures { Built (P.Task.pile self.now.pile) → result ≡ charge F.Amount.Amount.amounts (F.Tariff.price self.now.tariff) (meaning (P.Task.pile self.now.pile)) steps.now }
     {
-        quote_steps(self, steps)
+        steps.iter().fold(F::Amount::nought(), |sum, a| sum.join(self.charge_step(*a)))
     }
 
     // The quote of the plan; nought with no plan.
     pub fn quote(&self) -> F::Amount
-        ensures { result ≡ quoted F.Amount.Amount.amounts (F.Tariff.price self.now.tariff) (meaning (P.Task.pile self.now.pile)) (held self.now.plan) }
+        ensures { Built (P.Task.pile self.now.pile) → result ≡ quoted F.Amount.Amount.amounts (F.Tariff.price self.now.tariff) (meaning (P.Task.pile self.now.pile)) (held self.now.plan) }
     {
         match &self.plan {
             Some(plan) => self.charge_all(plan.as_slice()),
@@ -72,21 +79,21 @@ impl<P: Task, F: Tariff> Order<P, F> {
     }
 }
 
-// An order charges each action of its pile the joined amounts of its base steps.
-impl<P: Task, F: Tariff> Tariff for Order<P, F> {
+// An order over a pile that is always built charges each action of it the joined amounts of its base steps.
+impl<P: BuiltTask, F: Tariff> Tariff for Order<P, F> {
     type Amount = F::Amount;
 
     ghost price = { λ s a. charge F.Amount.Amount.amounts (F.Tariff.price s.tariff) (meaning (P.Task.pile s.pile)) (a ∷ []) };
 
     fn charge(&self, a: u16) -> F::Amount {
-        quote_steps(&self.tariff, self.pile.base_steps(a).as_slice())
+        self.charge_step(a)
     }
 }
 
 impl<P: Task + Drop, F: Tariff + Drop> Order<P, F> {
     // Answers the quote, and uses the order up.
     pub fn close(self) -> F::Amount
-        ensures { result ≡ quoted F.Amount.Amount.amounts (F.Tariff.price self.tariff) (meaning (P.Task.pile self.pile)) (held self.plan) }
+        ensures { Built (P.Task.pile self.pile) → result ≡ quoted F.Amount.Amount.amounts (F.Tariff.price self.tariff) (meaning (P.Task.pile self.pile)) (held self.plan) }
     {
         self.quote()
     }

@@ -38,7 +38,7 @@ module _ (t : Task) where
       wanted_more plan i want r (omega arith) (subst (Rest t plan want) on k) (subst (λ b. WantedBefore t b want r) here w)
 
   -- a plan is possible only if what is left of it is
-  possible_drop : (plan : List ℕ) (i : ℕ) → Possible t plan → Possible t (drop i plan)
+  pub possible_drop : (plan : List ℕ) (i : ℕ) → Possible t plan → Possible t (drop i plan)
   possible_drop plan zero h = h
   possible_drop [] (suc i) h = h
   possible_drop (a ∷ plan) (suc i) h = possible_drop plan i h.1

@@ -1,12 +1,12 @@
 -- What the answers of the task interface say.
-use Rattle.std.specs.Prelude.{◌≡◌, ℕ, List}
+use Rattle.std.specs.Prelude.{◌≡◌, ℕ, List, take}
 use Rattle.atoms.specs.Has.{has}
 use Rattle.planning.specs.Tasks.{Task}
 use Rattle.tasks.specs.declared.action.Action.{Action}
 use Rattle.tasks.specs.declared.base_steps.BaseSteps.{BaseSteps}
 
 abbrev pub listed : BaseSteps → List ℕ
-listed b = b.steps.items
+listed b = take b.len b.steps
 
 -- the answer is action a of the task
 pub record Acts (t : Task) (a : ℕ) (r : Action) : Type 0 where

@@ -1,9 +1,11 @@
-use arrayvec::ArrayVec;
+ghost use Rattle.std.specs.Prelude.{◌≤◌};
 
 pub mod ops;
 
-// Up to 8 base steps.
-#[derive(Drop)]
+// Up to 8 base steps. An array with a length, since an `ArrayVec` is not `Copy`.
+#[derive(Clone, Copy)]
 pub struct BaseSteps {
-    steps: ArrayVec<u16, 8>,
+    len: usize,
+    steps: [u16; 8],
+    ghost fits: { len ≤ 8 },
 }

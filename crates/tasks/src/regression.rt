@@ -2,7 +2,7 @@ ghost use Rattle.std.specs.Prelude.{ℕ, ◌↔◌, MatchOption};
 ghost use Rattle.atoms.specs.Has.{has};
 ghost use Rattle.planning.specs.Sets.{AtomSet, ◌⊆◌};
 ghost use Rattle.planning.specs.Tasks.{Task as Meaning, Lawful, Reaches};
-ghost use Rattle.planning.specs.Piles.{meaning};
+ghost use Rattle.planning.specs.Piles.{Built, meaning};
 ghost use Rattle.tasks.specs.Answers.{Acts};
 ghost use Rattle.tasks.specs.Regressed.{WantedBefore, Wanted};
 
@@ -25,8 +25,8 @@ impl Action {
 
 // What a state has to contain for the plan to reach the goal from it; none where no state does.
 pub fn wants<P: Task>(task: &P, plan: &[u16]) -> Option<Atoms>
-    ensures exact { Wanted (meaning (P.pile task.now)) plan.now result }
-    ensures regression { (s : AtomSet) → Reaches (meaning (P.pile task.now)) s plan.now ↔ MatchOption result ⊥ (λ w. has w ⊆ s) }
+    ensures exact { Built (P.pile task.now) → Wanted (meaning (P.pile task.now)) plan.now result }
+    ensures regression { Built (P.pile task.now) → (s : AtomSet) → Reaches (meaning (P.pile task.now)) s plan.now ↔ MatchOption result ⊥ (λ w. has w ⊆ s) }
     ensures monotone { (s s' : AtomSet) → s ⊆ s' → Reaches (meaning (P.pile task.now)) s plan.now → Reaches (meaning (P.pile task.now)) s' plan.now }
 {
     let mut want = task.goal();

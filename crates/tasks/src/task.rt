@@ -7,68 +7,70 @@ use crate::action::Action;
 use crate::base_steps::BaseSteps;
 use atoms::Atoms;
 
-// A task: a bottom, or layers on one. Every answer is read from the one task that the pile means. A number outside the counts is
-// answered by no, nothing, kind 65,535 or height 0.
+// A task: a bottom, or layers on one. Every answer is read from the one task that the pile means, if the pile is built. A number
+// outside the counts is answered by no, nothing, kind 65,535 or height 0.
 pub trait Task {
     ghost pile: { Self → Pile };
 
-    // What makes the pile mean a task that keeps the limits and the rules of its layers; each type proves it of all its values.
-    ghost built: { (s : Self) → Built (pile s) };
-
     // How many atoms there are.
     fn atoms(&self) -> u16
-        ensures { result ≡ (meaning (pile self.now)).atoms };
+        ensures { Built (pile self.now) → result ≡ (meaning (pile self.now)).atoms };
 
     // How many actions there are.
     fn actions(&self) -> u16
-        ensures { result ≡ (meaning (pile self.now)).actions };
+        ensures { Built (pile self.now) → result ≡ (meaning (pile self.now)).actions };
 
     fn initial(&self) -> Atoms
-        ensures { has result ≡ (meaning (pile self.now)).initial };
+        ensures { Built (pile self.now) → has result ≡ (meaning (pile self.now)).initial };
 
     fn goal(&self) -> Atoms
-        ensures { has result ≡ (meaning (pile self.now)).goal };
+        ensures { Built (pile self.now) → has result ≡ (meaning (pile self.now)).goal };
 
     // An action's sets and kind, all at once: a layer makes each of them from several of those below.
     fn action(&self, a: u16) -> Action
-        ensures { Acts (meaning (pile self.now)) a result };
+        ensures { Built (pile self.now) → Acts (meaning (pile self.now)) a result };
 
     fn needs(&self, a: u16) -> Atoms
-        ensures { has result ≡ (meaning (pile self.now)).needs a }
+        ensures { Built (pile self.now) → has result ≡ (meaning (pile self.now)).needs a }
     {
         self.action(a).needs
     }
 
     fn deletes(&self, a: u16) -> Atoms
-        ensures { has result ≡ (meaning (pile self.now)).deletes a }
+        ensures { Built (pile self.now) → has result ≡ (meaning (pile self.now)).deletes a }
     {
         self.action(a).deletes
     }
 
     fn adds(&self, a: u16) -> Atoms
-        ensures { has result ≡ (meaning (pile self.now)).adds a }
+        ensures { Built (pile self.now) → has result ≡ (meaning (pile self.now)).adds a }
     {
         self.action(a).adds
     }
 
     fn kind(&self, a: u16) -> u16
-        ensures { result ≡ (meaning (pile self.now)).kind a }
+        ensures { Built (pile self.now) → result ≡ (meaning (pile self.now)).kind a }
     {
         self.action(a).kind
     }
 
     // The bottom's actions that an action is made of.
     fn base_steps(&self, a: u16) -> BaseSteps
-        ensures { listed result ≡ (meaning (pile self.now)).base_steps a };
+        ensures { Built (pile self.now) → listed result ≡ (meaning (pile self.now)).base_steps a };
 
     // The two actions that an action joins.
     fn parts(&self, a: u16) -> Option<(u16, u16)>
-        ensures { result ≡ (meaning (pile self.now)).parts a };
+        ensures { Built (pile self.now) → result ≡ (meaning (pile self.now)).parts a };
 
     fn height(&self) -> u8
-        ensures { result ≡ (meaning (pile self.now)).height };
+        ensures { Built (pile self.now) → result ≡ (meaning (pile self.now)).height };
 
     // The height at which an atom first appeared.
     fn first_height(&self, p: u16) -> u8
-        ensures { result ≡ (meaning (pile self.now)).first_height p };
+        ensures { Built (pile self.now) → result ≡ (meaning (pile self.now)).first_height p };
+}
+
+// A task of a type whose values all have a built pile: what is said of a task with a built pile holds of it without a condition.
+pub trait BuiltTask: Task {
+    ghost built: { (s : Self) → Built (Self.pile s) };
 }

@@ -3,7 +3,7 @@ ghost use Rattle.atoms.specs.Has.{has};
 ghost use Rattle.planning.specs.Sets.{Under};
 ghost use Rattle.planning.specs.Judgements.{Judgement};
 ghost use Rattle.planning.specs.Verdicts.{lacks, stepped, on_ok};
-ghost use Rattle.planning.specs.Piles.{meaning};
+ghost use Rattle.planning.specs.Piles.{Built, meaning};
 
 use crate::task::Task;
 use atoms::Atoms;
@@ -20,7 +20,7 @@ fn hold<P: Task>(
     need: Atoms,
     state: Atoms,
 ) -> Result<(), Fault>
-    ensures { Under (meaning (P.pile task.now)).atoms (has need) → result ≡ lacks (meaning (P.pile task.now)) refusal place (has need) (has state) }
+    ensures { Built (P.pile task.now) → Under (meaning (P.pile task.now)).atoms (has need) → result ≡ lacks (meaning (P.pile task.now)) refusal place (has need) (has state) }
 {
     let missing = need.minus(state);
     match missing.lowest() {
@@ -38,7 +38,7 @@ fn hold<P: Task>(
 // The state after the action `a` as the step at `place`.
 pub fn step<P: Task>(task: &P, place: usize, a: u16, state: Atoms) -> Result<Atoms, Fault>
     ensures near { is_ok result ≡ true → place ≤ 256 }
-    ensures exact { on_ok has result ≡ stepped (meaning (P.pile task.now)) place a (has state) }
+    ensures exact { Built (P.pile task.now) → on_ok has result ≡ stepped (meaning (P.pile task.now)) place a (has state) }
 {
     if place > MOST_STEPS {
         return Err(Fault::at_place(Refusal::TooManySteps, place));
@@ -54,7 +54,7 @@ pub fn step<P: Task>(task: &P, place: usize, a: u16, state: Atoms) -> Result<Ato
 // Whether a plan solves the task in at most 256 steps, and if not, what is the first that is wrong with it.
 pub fn judge<P: Task>(task: &P, plan: &[u16]) -> Result<(), Fault>
     ensures short { is_ok result ≡ true → length plan.now ≤ 256 }
-    ensures judgement { Judgement (P.pile task.now) plan.now result }
+    ensures judgement { Built (P.pile task.now) → Judgement (P.pile task.now) plan.now result }
 {
     let mut state = task.initial();
     for (i, a) in plan.iter().enumerate() {

@@ -7,7 +7,7 @@ ghost use Rattle.trials.specs.Grounded.{full_bottom};
 
 use atoms::Atoms;
 use planning::Fault;
-use tasks::task::Task;
+use tasks::task::{BuiltTask, Task};
 use tasks::{Action, BaseSteps, judge};
 
 const MOST_ATOMS: u16 = 320;
@@ -61,8 +61,6 @@ impl Full {
 impl Task for Full {
     ghost pile = { λ s. bare (full s.atoms s.kind) };
 
-    ghost built = { λ s. full_bottom s.atoms s.kind s.few s.known };
-
     fn atoms(&self) -> u16 {
         self.atoms
     }
@@ -115,4 +113,8 @@ impl Task for Full {
     fn first_height(&self, p: u16) -> u8 {
         0
     }
+}
+
+impl BuiltTask for Full {
+    ghost built = { λ s. full_bottom s.atoms s.kind s.few s.known };
 }

@@ -1,5 +1,6 @@
 use super::*;
 use crate::tall::Tall;
+use crate::tests::claimed::Claimed;
 use crate::tests::same::check_same;
 use pad::Bench;
 use std::fmt::Display;
@@ -73,42 +74,58 @@ fn layers_of_faults(rt: HostRuntime) {
     }
 }
 
-// The height of a task, of both layers over it and of a mark there, and the same one layer higher.
+// A height, the one of a layer over it and the one of a layer over that.
+const HEIGHTS: [(u8, u8, u8); 6] = [
+    (0, 1, 2),
+    (1, 2, 3),
+    (252, 253, 254),
+    (253, 254, 255),
+    (254, 255, 255),
+    (255, 255, 255),
+];
+
+// The height of both layers over a task and of a mark there, and the same one layer higher.
+fn check_heights<T: Task + Copy + Drop>(rt: &impl Abort, below: T, next: u8, last: u8) {
+    let height = below.height();
+    let rule = rule(Successor, 0, 1, false);
+    let one = ruled(rt, below, rule, &[0]);
+    assert_eq!(rt;
+        (
+            one.height(),
+            one.first_height(0),
+            one.first_height(1),
+            one.first_height(2),
+        ),
+        (next, 0, next, 0),
+        "a rule over {height}"
+    );
+    let two = ruled(rt, one, rule, &[1]);
+    assert_eq!(rt;
+        (
+            two.height(),
+            two.first_height(1),
+            two.first_height(2),
+            two.first_height(3),
+        ),
+        (last, next, last, 0),
+        "two rules over {height}"
+    );
+    let macros = MacroLayer::new(MacroLayer::new(below));
+    assert_eq!(rt; macros.height(), last, "two macro layers over {height}");
+}
+
 #[test]
 fn heights_to_the_limit(rt: HostRuntime) {
-    for (height, next, last) in [
-        (0, 1, 2),
-        (1, 2, 3),
-        (252, 253, 254),
-        (253, 254, 255),
-        (254, 255, 255),
-        (255, 255, 255),
-    ] {
-        let rule = rule(Successor, 0, 1, false);
-        let one = ruled(&rt, Tall::new(height), rule, &[0]);
-        assert_eq!(rt;
-            (
-                one.height(),
-                one.first_height(0),
-                one.first_height(1),
-                one.first_height(2),
-            ),
-            (next, 0, next, 0),
-            "a rule over {height}"
-        );
-        let two = ruled(&rt, one, rule, &[1]);
-        assert_eq!(rt;
-            (
-                two.height(),
-                two.first_height(1),
-                two.first_height(2),
-                two.first_height(3),
-            ),
-            (last, next, last, 0),
-            "two rules over {height}"
-        );
-        let macros = MacroLayer::new(MacroLayer::new(Tall::new(height)));
-        assert_eq!(rt; macros.height(), last, "two macro layers over {height}");
+    for (height, next, last) in HEIGHTS {
+        check_heights(&rt, Tall::new(height), next, last);
+    }
+}
+
+// The layers take a task whose pile is not built.
+#[test]
+fn heights_over_a_claim(rt: HostRuntime) {
+    for (height, next, last) in HEIGHTS {
+        check_heights(&rt, Claimed(height), next, last);
     }
 }
 

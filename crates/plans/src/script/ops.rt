@@ -1,6 +1,6 @@
-ghost use Rattle.std.specs.Prelude.{◌≡◌, ℕ, ◌<◌, ◌≤◌, List, ◌∷◌, length, drop, IfSome, None, Decides, MatchOption, slice_index, slice_index_or};
+ghost use Rattle.std.specs.Prelude.{◌≡◌, ℕ, ◌<◌, ◌≤◌, List, ◌∷◌, length, drop, IfSome, Decides, MatchOption, slice_index};
 ghost use Rattle.atoms.specs.Has.{has};
-ghost use Rattle.planning.specs.Piles.{meaning};
+ghost use Rattle.planning.specs.Piles.{Built, meaning};
 ghost use Rattle.planning.specs.Sets.{◌⊆◌};
 ghost use Rattle.planning.specs.Tasks.{Task as Meaning, Lawful};
 ghost use Rattle.planning.specs.Trims.{left_out, strikable};
@@ -9,9 +9,8 @@ ghost use Rattle.tasks.specs.Regressed.{Wanted};
 ghost use Rattle.plans.specs.Scripts.{Scripted, numbers};
 ghost use Rattle.plans.specs.Steps.{steps_of};
 
-use super::{Script, Step};
+use super::Step;
 use crate::plan::Plan;
-use arrayvec::ArrayVec;
 use atoms::Atoms;
 use tasks::Action;
 use tasks::task::Task;
@@ -30,76 +29,68 @@ fn serves(state: Atoms, want: Option<Atoms>) -> bool
     want.is_some_and(|want| want.is_subset(state))
 }
 
-impl Script {
-    // Asks the task for the action of each step.
-    pub fn of<P: Task>(task: &P, plan: &Plan) -> Script
-        ensures plan { numbers result ≡ steps_of plan.now }
-        ensures few { length (numbers result) ≤ 256 }
-        ensures scripted { Scripted (meaning (P.pile task.now)) result }
-    {
-        let mut steps = ArrayVec::new();
-        for a in plan.as_slice() {
-            steps.push(Step {
-                number: *a,
-                action: task.action(*a),
-            });
-        }
-        Script {
-            steps,
-            initial: task.initial(),
-            goal: task.goal(),
-        }
+// Writes the script of a plan: asks the task for the action of each step, once, from the last to the first.
+pub fn write<P: Task>(task: &P, plan: &[u16], script: &mut [Step])
+    requires { length script.old ≡ length plan.now }
+    ensures plan { numbers script.new ≡ plan.now }
+    ensures scripted { Built (P.pile task.now) → Scripted (meaning (P.pile task.now)) script.new }
+{
+    let mut want = Some(task.goal());
+    for (i, a) in plan.iter().enumerate().rev() {
+        let action = task.action(*a);
+        script[i] = Step {
+            number: *a,
+            action,
+            later: want,
+        };
+        want = before(action, want);
     }
+}
 
-    // What the rest of the plan wants from each index on; nothing where no state serves it.
-    fn wants(&self) -> [Option<Atoms>; 257]
-        ensures { (t : Meaning) → Scripted t self.now → (k : ℕ) → k ≤ length (numbers self.now) → Wanted t (drop k (numbers self.now)) (slice_index_or result k None) }
-    {
-        let mut want = Some(self.goal);
-        let mut wants = [None; 257];
-        wants[self.steps.len()] = want;
-        for (i, step) in self.steps.as_slice().iter().enumerate().rev() {
-            want = before(step.action, want);
-            wants[i] = want;
+// The index of the earliest step that the plan can do without.
+pub fn strikable(start: Atoms, script: &[Step]) -> Option<usize>
+    ensures inside { IfSome result (λ i. i < length (numbers script.now)) }
+    ensures exact { (t : Meaning) → length script.now ≤ 256 → has start ≡ t.initial → Scripted t script.now → result ≡ strikable t (numbers script.now) }
+{
+    let mut state = start;
+    for (i, step) in script.iter().enumerate() {
+        if serves(state, step.later) {
+            return Some(i);
         }
-        wants
-    }
-
-    // The index of the earliest step that the plan can do without.
-    pub fn strikable(&self) -> Option<usize>
-        ensures inside { IfSome result (λ i. i < length (numbers self.now)) }
-        ensures exact { (t : Meaning) → Scripted t self.now → result ≡ strikable t (numbers self.now) }
-    {
-        let wants = self.wants();
-        let mut state = self.initial;
-        for (i, step) in self.steps.as_slice().iter().enumerate() {
-            if serves(state, wants[i + 1]) {
-                return Some(i);
-            }
-            if !step.action.is_applicable(state) {
-                return None;
-            }
-            state = step.action.after(state);
+        if !step.action.is_applicable(state) {
+            return None;
         }
-        None
+        state = step.action.after(state);
     }
+    None
+}
 
-    // Leaves out the step at index `i`, and answers its number.
-    pub fn leave_out(&mut self, i: usize) -> u16
-        ensures number { i < length (numbers self.old) → result ≡ slice_index (numbers self.old) i }
-        ensures plan { i < length (numbers self.old) → numbers self.new ≡ left_out (numbers self.old) i }
-        ensures scripted { (t : Meaning) → i < length (numbers self.old) → Scripted t self.old → Scripted t self.new }
-    {
-        self.steps.pop_at(i).map_or(0, |step| step.number)
+// Leaves out the step at index `i`, and answers its number: those before it move up by one, and what is wanted behind each of them
+// is reckoned anew. Those behind it stay as they are. The first place is free then.
+pub fn leave_out(script: &mut [Step], i: usize) -> u16
+    requires { i < length script.old }
+    ensures number { result ≡ slice_index (numbers script.old) i }
+    ensures plan { numbers (drop 1 script.new) ≡ left_out (numbers script.old) i }
+    ensures scripted { (t : Meaning) → Scripted t script.old → Scripted t (drop 1 script.new) }
+{
+    let gone = script[i];
+    let mut want = gone.later;
+    for k in (0..i).rev() {
+        let mut step = script[k];
+        step.later = want;
+        script[k + 1] = step;
+        want = before(step.action, want);
     }
+    gone.number
+}
 
-    pub fn plan(&self) -> Plan
-        ensures { steps_of result ≡ numbers self.now }
-    {
-        let mut plan = Plan::empty();
-        for step in self.steps.as_slice() {
-            plan.push(step.number);
-        }
-        plan
+// The plan of a script.
+pub fn plan(script: &[Step]) -> Plan
+    ensures { length script.now ≤ 256 → steps_of result ≡ numbers script.now }
+{
+    let mut plan = Plan::empty();
+    for step in script {
+        plan.push(step.number);
     }
+    plan
 }

@@ -1,6 +1,6 @@
 ghost use Rattle.std.specs.Prelude.{◌≡◌, ◌<◌, ◌≤◌, length, drop, Err, MatchResult};
 ghost use Rattle.planning.specs.Faults.{at_place};
-ghost use Rattle.planning.specs.Piles.{meaning};
+ghost use Rattle.planning.specs.Piles.{Built, meaning};
 ghost use Rattle.planning.specs.Runs.{performed};
 ghost use Rattle.planning.specs.declared.refusal.Refusal.TheVariants.{BufferTooShort};
 ghost use Rattle.service.specs.Calls.{held, call_of, answer_of, CarriedOut};
@@ -17,7 +17,7 @@ impl<P: Task, F: Tariff> Order<P, F> {
     pub fn perform(&mut self, call: Call<'_>) -> Result<Option<F::Amount>, Fault>
         ensures pile { self.new.pile ≡ self.old.pile }
         ensures tariff { self.new.tariff ≡ self.old.tariff }
-        ensures exact { performed F.Amount.Amount.amounts (F.Tariff.price self.old.tariff) (meaning (P.Task.pile self.old.pile)) (held self.old.plan) (call_of call.entry) ≡ (answer_of result, held self.new.plan) }
+        ensures exact { Built (P.Task.pile self.old.pile) → performed F.Amount.Amount.amounts (F.Tariff.price self.old.tariff) (meaning (P.Task.pile self.old.pile)) (held self.old.plan) (call_of call.entry) ≡ (answer_of result, held self.new.plan) }
     {
         match call {
             Call::Load(row) => self.load(row).map(|()| None),
@@ -40,7 +40,7 @@ impl<P: Task, F: Tariff> Order<P, F> {
         ensures tariff { self.new.tariff ≡ self.old.tariff }
         ensures short { length answers.old < length calls.now → (result ≡ Err (at_place BufferTooShort 0)) × (self.new ≡ self.old) × (answers.new ≡ answers.old) }
         ensures beyond { drop (length calls.now) answers.new ≡ drop (length calls.now) answers.old }
-        ensures carried { length calls.now ≤ length answers.old → MatchResult result (CarriedOut F.Amount.Amount.amounts (F.Tariff.price self.old.tariff) (P.Task.pile self.old.pile) (held self.old.plan) calls.now answers.new (held self.new.plan)) (λ _. ⊥) }
+        ensures carried { Built (P.Task.pile self.old.pile) → length calls.now ≤ length answers.old → MatchResult result (CarriedOut F.Amount.Amount.amounts (F.Tariff.price self.old.tariff) (P.Task.pile self.old.pile) (held self.old.plan) calls.now answers.new (held self.new.plan)) (λ _. ⊥) }
     {
         if answers.len() < calls.len() {
             return Err(Fault::at_place(Refusal::BufferTooShort, 0));

@@ -2,23 +2,24 @@ ghost use Rattle.std.specs.Prelude.{◌≡◌, ◌+◌, ◌≤◌, [], ◌∷◌
 ghost use Rattle.tasks.specs.Answers.{listed};
 
 use super::BaseSteps;
-use arrayvec::ArrayVec;
 
 impl BaseSteps {
     pub fn none() -> BaseSteps
         ensures { listed result ≡ [] }
     {
         BaseSteps {
-            steps: ArrayVec::new(),
+            len: 0,
+            steps: [0; 8],
         }
     }
 
     pub fn one(a: u16) -> BaseSteps
         ensures { listed result ≡ a ∷ [] }
     {
-        let mut steps = ArrayVec::new();
-        steps.push(a);
-        BaseSteps { steps }
+        BaseSteps {
+            len: 1,
+            steps: [a, 0, 0, 0, 0, 0, 0, 0],
+        }
     }
 
     // Of a bottom with so many actions: each is its own only base step.
@@ -36,21 +37,25 @@ impl BaseSteps {
         ensures count { result ≡ length (listed self.now) }
         ensures few { result ≤ 8 }
     {
-        self.steps.len()
+        self.len
     }
 
     // These steps, then the other's, if they are 8 at most.
     pub fn then(self, other: BaseSteps) -> BaseSteps
         ensures { length (listed self) + length (listed other) ≤ 8 → listed result ≡ listed self ++ listed other }
     {
+        let len = self.len + other.len;
+        if len > 8 {
+            return self;
+        }
         let mut steps = self.steps;
-        let _ = steps.try_extend_from_slice(other.as_slice());
-        BaseSteps { steps }
+        steps[self.len..len].copy_from_slice(other.as_slice());
+        BaseSteps { len, steps }
     }
 
     pub fn as_slice(&self) -> &[u16]
         ensures { result.now ≡ listed self.now }
     {
-        self.steps.as_slice()
+        &self.steps[..self.len]
     }
 }

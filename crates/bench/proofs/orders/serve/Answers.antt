@@ -8,6 +8,7 @@ use Rattle.service.specs.Calls.{held, call_of, answer_of}
 use Rattle.tariffs.specs.declared.cents.Cents.{Cents}
 use Rattle.bench.specs.Piles.{service_pile}
 use Rattle.pad.specs.Bench.{bench}
+use Rattle.pad.specs.Grounded.{bench_bottom}
 use Rattle.bench.proofs.orders.serve.Goals as goal
 
 of_ok : {X F : Type 0} {P Q : X → Type 0} → ((x : X) → P x → Q x) → (r : Result X F) → MatchResult r P (λ _. ⊥) → MatchResult r Q (λ _. ⊥)
@@ -32,4 +33,4 @@ returns-clause-term c fits =
     (subst (λ (p : Pile). Says row plan quote (held order.plan) p c.args.prices.now) pile
     (subst (λ (cents : List ℕ). Says row plan quote (held order.plan) opened cents) prices (carried.ran, carried.term c.open-order.ensures.plan))) in
     (plan, said.0, said.1))
-    c.carry_out.result (c.carry_out.ensures.carried fits)
+    c.carry_out.result (c.carry_out.ensures.carried (o.built (o.below.built (o.below.below.built bench_bottom))) fits)

@@ -4,11 +4,11 @@ use Rattle.tasks.proofs.Steps.{lacks_none, lacks_some}
 use Rattle.tasks.proofs.verdict.hold.Goals as goal
 
 pub returns-in-None : goal.returns-in-None
-returns-in-None g c under =
+returns-in-None g c b under =
     let p = g.P.Task.pile c.args.task.now in
-    lacks_none (meaning p) (built_sound p (g.P.Task.built c.args.task.now)).lawful _ _ _ _ _ under c.minus-missing.ensures c.in-None.ensures
+    lacks_none (meaning p) (built_sound p b).lawful _ _ _ _ _ under c.minus-missing.ensures c.in-None.ensures
 
 pub returns-in-Some : goal.returns-in-Some
-returns-in-Some g c under =
+returns-in-Some g c b under =
     let p = g.P.Task.pile c.args.task.now in
-    lacks_some (meaning p) (built_sound p (g.P.Task.built c.args.task.now)).lawful _ _ _ _ _ under c.minus-missing.ensures _ _ _ c.in-Some.ensures c.count.ensures c.first_height.ensures
+    lacks_some (meaning p) (built_sound p b).lawful _ _ _ _ _ under c.minus-missing.ensures _ _ _ c.in-Some.ensures c.count.ensures (c.first_height.ensures b)

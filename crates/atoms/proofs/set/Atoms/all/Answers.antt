@@ -7,5 +7,5 @@ use Rattle.atoms.proofs.set.Atoms.all.Goals as goal
 
 pub returns : goal.returns
 returns c = fun_ext (λ p. ⊎_elim
-    (λ h. has_made (λ _. 2 ^ 64 - 1) p h ∙ bit_not 0 (p % 64) (lit< tt) (omega arith) ∙ ap not (bit_none (p % 64)) ∙ sym (lt-ltb p 320 h))
+    (λ h. has_made (λ _. 2 ^ 64 - 1) p h ∙ bit_not 64 0 (p % 64) (lit< tt) (omega arith) ∙ ap not (bit_none (p % 64)) ∙ sym (lt-ltb p 320 h))
     (λ h. has_past (made (λ _. 2 ^ 64 - 1)) p h ∙ sym (le-ltb p 320 h)) (cases_lt p 320))

@@ -12,7 +12,7 @@ use Rattle.atoms.proofs.set.Atoms.lowest.Goals as goal
 first_word : (a : Atoms) (i : ℕ) → i < 5 → word a i ≢ 0 → word a i < 2 ^ 64 → ((k : ℕ) → k < i → word a k ≡ 0)
     → Some (i * 64 + count_trailing_zeros 64 (word a i)) ≡ lowest (has a) 320
 first_word a i within here fits before =
-    sym (lowest_at a i _ within (trailing_lowest (word a i) (omega (arith, here)) fits) (λ p h. no_word a p (λ _. before (p / 64) (omega arith))))
+    sym (lowest_at a i _ within (trailing_lowest 64 (word a i) (omega (arith, here)) fits) (λ p h. no_word a p (λ _. before (p / 64) (omega arith))))
 
 pub returns-in_err-i : goal.returns-in_err-i
 returns-in_err-i c =

@@ -12,4 +12,4 @@ returns c =
     let b = c.args.other in
     let fits : (i : ℕ) → i < 5 → word b i < 2 ^ 64 = search rules in
     pointwise (λ x y. bit_and x ((2 ^ 64 - 1) - y)) (λ x y. x && not y) a b c.by_word.result refl (search rules)
-    (λ i k h l. bit-and (word a i) _ k ∙ ap (λ t. bit (word a i) k && t) (bit_not (word b i) k (fits i h) l))
+    (λ i k h l. bit-and (word a i) _ k ∙ ap (λ t. bit (word a i) k && t) (bit_not 64 (word b i) k (fits i h) l))

@@ -1,5 +1,5 @@
 use Rattle.std.proofs.lemmas.Result.{err_from_is_err_and}
-use Rattle.planning.specs.Piles.{meaning}
+use Rattle.planning.specs.Piles.{Built, meaning}
 use Rattle.planning.specs.Rows.{MacroRows, macro_row}
 use Rattle.planning.proofs.Rows.{macro_row_decides}
 use Rattle.planning.proofs.Soundness.{built_sound}
@@ -11,19 +11,19 @@ returns-in_err-check-clause-added g c =
     let l = c.args.self.now in
     let p = g.T.Task.pile l.below in
     let e = err_from_is_err_and c.from_residual.result c.from_residual.ensures.1 in
-    rw (e.1, e.2) (added_none _ _ _ _ (macro_row_decides (meaning p) (built_sound p l.built.0).lawful l.rows.items c.args.row) l.built.1 c.in_err-check.field-0.0 c.in_err-check.ensures.exact)
+    rw (e.1, e.2) (added_none _ _ _ _ _ (λ b. macro_row_decides (meaning p) (built_sound p b).lawful l.rows.items c.args.row) (λ b. (l.built b).1) c.in_err-check.field-0.0 c.in_err-check.ensures.exact)
 
 pub invariant_of-self : goal.invariant_of-self
 invariant_of-self g c =
     let l = c.args.self.now in
     let p = g.T.Task.pile l.below in
     let t = meaning p in
-    let rows = fits_more (MacroRows t) (macro_row t l.rows.items c.args.row) l.rows.items c.args.row
-    (macro_row_decides t (built_sound p l.built.0).lawful l.rows.items c.args.row) l.built.1 c.in_ok-check.ensures.exact in
-    record { built = (l.built.0, rw c.push.ensures.items rows, l.built.2) }
+    let rows = fits_more (Built p) (MacroRows t) (macro_row t l.rows.items c.args.row) l.rows.items c.args.row
+    (λ b. macro_row_decides t (built_sound p b).lawful l.rows.items c.args.row) (λ b. (l.built b).1) c.in_ok-check.ensures.exact in
+    record { built = λ b. (b, rw c.push.ensures.items (rows b), (l.built b).2) }
 
 pub returns-clause-added : goal.returns-clause-added
 returns-clause-added g c =
     let l = c.args.self.now in
     let p = g.T.Task.pile l.below in
-    added_one _ _ _ _ (macro_row_decides (meaning p) (built_sound p l.built.0).lawful l.rows.items c.args.row) l.built.1 _ c.push.ensures.items c.in_ok-check.ensures.exact
+    added_one _ _ _ _ _ (λ b. macro_row_decides (meaning p) (built_sound p b).lawful l.rows.items c.args.row) (λ b. (l.built b).1) _ c.push.ensures.items c.in_ok-check.ensures.exact

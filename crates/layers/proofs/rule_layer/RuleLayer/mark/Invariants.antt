@@ -1,4 +1,4 @@
-use Rattle.std.proofs.Common.{◌≡◌, take}
+use Rattle.std.proofs.Common.{◌≡◌, ◌+◌, ◌≤◌, length, take}
 use Rattle.atoms.specs.Has.{has}
 use Rattle.planning.specs.Sets.{Under}
 use Rattle.planning.specs.Marks.{marked}
@@ -7,4 +7,4 @@ use Rattle.layers.proofs.rule_layer.RuleLayer.mark.Given as goal
 -- the marks of the listed atoms so far are in
 abbrev pub invariant-loop-k : goal.invariant-loop-k
 invariant-loop-k g l =
-    Under l.self.from (has l.initial.marked) → has l.marked ≡ marked l.self.from (take l.k l.p-items) (has l.initial.marked) (has l.marks)
+    l.self.from + length l.self.listed.items ≤ 320 → Under l.self.from (has l.initial.marked) → has l.marked ≡ marked l.self.from (take l.k l.p-items) (has l.initial.marked) (has l.marks)
